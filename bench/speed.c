@@ -1,0 +1,129 @@
+/*
+ * The time that one block of AES-128 takes, key expansion included, in
+ * limpet_aes128 and in three others, measured in one run.
+ *
+ * In each round every one of them enciphers the same chain of blocks, in which
+ * each output is the next input, so that no call can begin before the one
+ * before it has ended. The rounds alternate between them, so that a slow moment
+ * of the machine does not meet only one, and the best round of each counts.
+ */
+#define _POSIX_C_SOURCE 200809L /* clock_gettime */
+#define OPENSSL_SUPPRESS_DEPRECATED /* AES_encrypt: the plain call, with no layers over it */
+
+#include <stdio.h>
+#include <stdlib.h>
+#include <string.h>
+#include <time.h>
+
+#include <openssl/aes.h>
+#include <openssl/crypto.h>
+
+#include "limpetnook.h"
+
+enum { SIZE = LIMPET_AES128_SIZE, ROUNDS = 25, PAIRS_IN_ROUND = 25000 };
+
+typedef void cipher(const uint8_t key[SIZE], const uint8_t block[SIZE], uint8_t out[SIZE]);
+
+/* aes_bytes.c, compiled twice */
+cipher aes_bytes_O2, aes_bytes_O3;
+
+static void ours(const uint8_t *key, const uint8_t *block, uint8_t *out)
+{
+    if (limpet_aes128(key, SIZE, block, SIZE, out, SIZE) != LIMPET_OK)
+        abort();
+}
+
+static void openssls(const uint8_t *key, const uint8_t *block, uint8_t *out)
+{
+    AES_KEY expanded;
+    if (AES_set_encrypt_key(key, 8 * SIZE, &expanded) != 0)
+        abort();
+    AES_encrypt(block, out, &expanded);
+}
+
+static struct contender {
+    const char *name;
+    cipher *encipher;
+    double best; /* ns a block */
+    uint8_t last[SIZE];
+} contenders[] = {
+    { "ours (limpet_aes128)", ours, 0, { 0 } },
+    { "C by bytes, gcc -O2", aes_bytes_O2, 0, { 0 } },
+    { "C by bytes, gcc -O3", aes_bytes_O3, 0, { 0 } },
+    { "openssl AES_set_encrypt_key and AES_encrypt", openssls, 0, { 0 } },
+};
+
+enum { CONTENDERS = sizeof contenders / sizeof contenders[0] };
+
+static double nanoseconds(void)
+{
+    struct timespec t;
+    clock_gettime(CLOCK_MONOTONIC, &t);
+    return 1e9 * (double)t.tv_sec + (double)t.tv_nsec;
+}
+
+/* Two buffers in turn: an output is the next input where it stands. */
+static double run_chain(struct contender *c, const uint8_t *key, const uint8_t *block, int pairs)
+{
+    uint8_t a[SIZE], b[SIZE];
+    memcpy(a, block, SIZE);
+    double from = nanoseconds();
+    for (int i = 0; i < pairs; i++) {
+        c->encipher(key, a, b);
+        c->encipher(key, b, a);
+    }
+    double to = nanoseconds();
+    memcpy(c->last, a, SIZE);
+    return (to - from) / (2.0 * pairs);
+}
+
+static void print_hex(const uint8_t *bytes)
+{
+    for (int i = 0; i < SIZE; i++)
+        printf("%02X", bytes[i]);
+}
+
+static void expect_same_last_block(const char *when)
+{
+    for (int i = 1; i < CONTENDERS; i++)
+        if (memcmp(contenders[i].last, contenders[0].last, SIZE) != 0) {
+            printf("they differ %s:\n", when);
+            for (int j = 0; j < CONTENDERS; j++) {
+                print_hex(contenders[j].last);
+                printf(" %s\n", contenders[j].name);
+            }
+            exit(EXIT_FAILURE);
+        }
+}
+
+int main(void)
+{
+    uint8_t key[SIZE], block[SIZE];
+    for (int i = 0; i < SIZE; i++) {
+        key[i] = (uint8_t)i;
+        block[i] = (uint8_t)(0x11 * i);
+    }
+
+    for (int i = 0; i < CONTENDERS; i++)
+        contenders[i].encipher(key, block, contenders[i].last);
+    expect_same_last_block("on FIPS 197 C.1");
+    printf("all give ");
+    print_hex(contenders[0].last);
+    printf(" on FIPS 197 C.1\n");
+
+    for (int round = 0; round < ROUNDS; round++)
+        for (int i = 0; i < CONTENDERS; i++) {
+            double time = run_chain(&contenders[i], key, block, PAIRS_IN_ROUND);
+            if (round == 0 || time < contenders[i].best)
+                contenders[i].best = time;
+        }
+    expect_same_last_block("at the end of the chain");
+
+    printf("%s\n", OpenSSL_version(OPENSSL_VERSION));
+    printf("best of %d rounds of %d blocks each:\n", ROUNDS, 2 * PAIRS_IN_ROUND);
+    printf("%10s  %11s\n", "ns a block", "ours / this");
+    for (int i = 0; i < CONTENDERS; i++)
+        printf("%10.1f  %11.2f  %s\n", contenders[i].best,
+               contenders[0].best / contenders[i].best, contenders[i].name);
+    return EXIT_SUCCESS;
+}
