@@ -1,0 +1,12 @@
+-- Laws that belong to no one function.
+pub mod Parts
+pub mod Tab
+pub mod Checks
+pub mod Extents
+pub mod Cycle
+pub mod Lists
+pub mod Sums
+pub mod Served
+pub mod Making
+pub mod Kept
+pub mod Stays

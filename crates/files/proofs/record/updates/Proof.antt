@@ -1,0 +1,33 @@
+use Rattle.files.specs.Record.{updatesRecord}
+use Rattle.files.proofs.record.updates.Statement.{statement}
+use Rattle.files.proofs.record.updates.Tie as tie
+
+is-extent-requires : tie.Need-is-extent-requires
+is-extent-requires c κs = tt
+
+in-records-requires : tie.Need-in-records-requires
+in-records-requires c κs = tt
+
+record-length-requires : tie.Need-record-length-requires
+record-length-requires c κs = tt
+
+both-requires : tie.Need-both-requires
+both-requires c κs = tt
+
+both-requires-2 : tie.Need-both-requires-2
+both-requires-2 c κs = tt
+
+returns : tie.Need-returns
+unfolding updatesRecord
+returns c = cc
+
+pub updates-spec : {M : Type 1} → statement M
+updates-spec =
+    tie.close
+    (tie.spec
+    is-extent-requires
+    in-records-requires
+    record-length-requires
+    both-requires
+    both-requires-2
+    returns)

@@ -1,0 +1,38 @@
+use Rattle.files.specs.Sound.{soundFile}
+use borrow.Author.Needs.{needs}
+use Rattle.files.proofs.sound.sound_file.Statement.{statement}
+use Rattle.files.proofs.sound.sound_file.Tie as tie
+
+cast-sfi : tie.Need-cast-sfi
+cast-sfi c = search needs
+
+good-sfi-requires : tie.Need-good-sfi-requires
+good-sfi-requires c κs = tt
+
+good-contents-requires : tie.Need-good-contents-requires
+good-contents-requires c κs = tt
+
+sound-held-requires : tie.Need-sound-held-requires
+sound-held-requires c κs = tt
+
+both-requires : tie.Need-both-requires
+both-requires c κs = tt
+
+both-requires-2 : tie.Need-both-requires-2
+both-requires-2 c κs = tt
+
+returns : tie.Need-returns
+unfolding soundFile
+returns c = cc
+
+pub sound-file-spec : {M : Type 1} → statement M
+sound-file-spec =
+    tie.close
+    (tie.spec
+    cast-sfi
+    good-sfi-requires
+    good-contents-requires
+    sound-held-requires
+    both-requires
+    both-requires-2
+    returns)

@@ -1,0 +1,41 @@
+use Rattle.files.specs.Sound.{unusedPlace}
+use Rattle.files.proofs.sound.unused_place.Statement.{statement}
+use Rattle.files.proofs.sound.unused_place.Tie as tie
+
+both-requires : tie.Need-both-requires
+both-requires c κs = tt
+
+both-requires-2 : tie.Need-both-requires-2
+both-requires-2 c κs = tt
+
+both-requires-3 : tie.Need-both-requires-3
+both-requires-3 c κs = tt
+
+both-requires-4 : tie.Need-both-requires-4
+both-requires-4 c κs = tt
+
+both-requires-5 : tie.Need-both-requires-5
+both-requires-5 c κs = tt
+
+both-requires-6 : tie.Need-both-requires-6
+both-requires-6 c κs = tt
+
+both-requires-7 : tie.Need-both-requires-7
+both-requires-7 c κs = tt
+
+returns : tie.Need-returns
+unfolding unusedPlace
+returns c = cc
+
+pub unused-place-spec : {M : Type 1} → statement M
+unused-place-spec =
+    tie.close
+    (tie.spec
+    both-requires
+    both-requires-2
+    both-requires-3
+    both-requires-4
+    both-requires-5
+    both-requires-6
+    both-requires-7
+    returns)
