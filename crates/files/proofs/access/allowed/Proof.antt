@@ -1,3 +1,4 @@
+-- `files::access::allowed` meets its contract. Assumes nothing.
 use mathlib.Core.Path.{refl}
 use mathlib.Core.Bool.{Bool, not}
 use lib.Dec.{eqb}

@@ -1,3 +1,4 @@
+-- `files::access::good_rights` meets its contract. Assumes nothing.
 use Rattle.files.specs.Rights.{goodRights}
 use Rattle.files.proofs.access.good_rights.Statement.{statement}
 use Rattle.files.proofs.access.good_rights.Tie as tie

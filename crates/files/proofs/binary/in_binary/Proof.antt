@@ -1,3 +1,4 @@
+-- `files::binary::in_binary` meets its contract. Assumes nothing.
 use Rattle.files.specs.Binary.{inBinary}
 use Rattle.files.proofs.binary.in_binary.Statement.{statement}
 use Rattle.files.proofs.binary.in_binary.Tie as tie

@@ -1,7 +1,7 @@
+-- `files::binary::reads` meets its contract. Assumes nothing.
 use Rattle.files.specs.Binary.{readsBinary}
 use Rattle.files.proofs.binary.reads.Statement.{statement}
 use Rattle.files.proofs.binary.reads.Tie as tie
-use Rattle.files.proofs.binary.reads.Reads as reads
 
 is-extent-requires : tie.Need-is-extent-requires
 is-extent-requires c κs = tt

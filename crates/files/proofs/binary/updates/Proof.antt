@@ -1,3 +1,4 @@
+-- `files::binary::updates` meets its contract. Assumes nothing.
 use Rattle.files.proofs.binary.updates.Statement.{statement}
 use Rattle.files.proofs.binary.updates.Tie as tie
 

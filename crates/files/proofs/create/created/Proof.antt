@@ -1,3 +1,4 @@
+-- `files::create::created` meets its contract. Assumes nothing.
 use borrow.Author.Needs.{needs}
 use Rattle.files.specs.Create.{created}
 use Rattle.files.proofs.create.created.Statement.{statement}

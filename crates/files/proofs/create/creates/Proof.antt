@@ -1,3 +1,4 @@
+-- `files::create::creates` meets its contract. Assumes nothing.
 use Rattle.files.specs.Create.{creates}
 use borrow.Author.Needs.{needs}
 use Rattle.files.proofs.create.creates.Statement.{statement}

@@ -1,3 +1,4 @@
+-- `files::create::good_contents` meets its contract. Assumes nothing.
 use Rattle.files.specs.Create.{goodContents}
 use Rattle.files.proofs.create.good_contents.Statement.{statement}
 use Rattle.files.proofs.create.good_contents.Tie as tie

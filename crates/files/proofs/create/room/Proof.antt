@@ -1,3 +1,4 @@
+-- `files::create::room` meets its contract. Assumes nothing.
 use Rattle.files.specs.Create.{room}
 use borrow.Author.Needs.{needs}
 use Rattle.files.proofs.create.room.Statement.{statement}

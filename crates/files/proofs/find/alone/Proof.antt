@@ -1,3 +1,4 @@
+-- `files::find::alone` meets its contract. Assumes nothing.
 use mathlib.Core.Path.{ap}
 use Rattle.files.specs.Words.{isZero}
 use borrow.Author.Needs.{needs}

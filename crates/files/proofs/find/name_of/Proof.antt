@@ -1,3 +1,4 @@
+-- `files::find::name_of` meets its contract. Assumes nothing.
 use borrow.Author.Needs.{needs}
 use Rattle.files.proofs.find.name_of.Statement.{statement}
 use Rattle.files.proofs.find.name_of.Tie as tie

@@ -1,3 +1,4 @@
+-- `files::find::sfi_unused` meets its contract. Assumes nothing.
 use Rattle.files.specs.Create.{sfiUnused}
 use Rattle.files.proofs.find.sfi_unused.Statement.{statement}
 use Rattle.files.proofs.find.sfi_unused.Tie as tie

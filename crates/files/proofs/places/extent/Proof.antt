@@ -1,3 +1,4 @@
+-- `files::places::extent` meets its contract. Assumes nothing.
 use Rattle.files.specs.Directory.{inArea}
 use borrow.Author.Needs.{needs}
 use Rattle.files.proofs.places.extent.Statement.{statement}

@@ -1,3 +1,4 @@
+-- `files::places::is_place` meets its contract. Assumes nothing.
 use Rattle.files.specs.Directory.{isPlace}
 use Rattle.files.proofs.places.is_place.Statement.{statement}
 use Rattle.files.proofs.places.is_place.Tie as tie

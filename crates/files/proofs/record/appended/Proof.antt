@@ -1,3 +1,4 @@
+-- `files::record::appended` meets its contract. Assumes nothing.
 use mathlib.Core.Path.{_≡_, _∙_}
 use Rattle.files.specs.Record.{appended}
 use Rattle.files.proofs.Extents.{count-records}

@@ -1,3 +1,4 @@
+-- `files::record::appends` meets its contract. Assumes nothing.
 use Rattle.files.specs.Record.{appendsRecord}
 use Rattle.files.proofs.record.appends.Statement.{statement}
 use Rattle.files.proofs.record.appends.Tie as tie

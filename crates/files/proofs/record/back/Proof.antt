@@ -1,3 +1,4 @@
+-- `files::record::back` meets its contract. Assumes nothing.
 use mathlib.Core.Path.{sym, _∙_}
 use Rattle.files.proofs.Cycle.{back-near, back-far}
 use borrow.Author.Needs.{needs}

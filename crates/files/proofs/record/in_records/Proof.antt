@@ -1,3 +1,4 @@
+-- `files::record::in_records` meets its contract. Assumes nothing.
 use Rattle.files.specs.Record.{inRecords}
 use Rattle.files.proofs.record.in_records.Statement.{statement}
 use Rattle.files.proofs.record.in_records.Tie as tie

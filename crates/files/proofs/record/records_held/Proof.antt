@@ -1,3 +1,4 @@
+-- `files::record::records_held` meets its contract. Assumes nothing.
 use mathlib.Core.Path.{sym, _∙_}
 use borrow.Author.Tests.{eq-eqb, ne-eqb}
 use Rattle.files.proofs.Lists.{held-cyclic, held-other}

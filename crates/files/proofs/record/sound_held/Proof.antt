@@ -1,3 +1,4 @@
+-- `files::record::sound_held` meets its contract. Assumes nothing.
 use Rattle.files.proofs.Checks.{and-as, leb-as, ltb-as}
 use borrow.Author.Tests.{eq-eqb, ne-eqb}
 use Rattle.files.specs.Record.{soundHeld}

@@ -1,3 +1,4 @@
+-- `files::record::updates` meets its contract. Assumes nothing.
 use Rattle.files.specs.Record.{updatesRecord}
 use Rattle.files.proofs.record.updates.Statement.{statement}
 use Rattle.files.proofs.record.updates.Tie as tie

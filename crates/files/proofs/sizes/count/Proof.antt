@@ -1,3 +1,4 @@
+-- `files::sizes::count` meets its contract. Assumes nothing.
 use mathlib.Core.Path.{sym, _∙_}
 use Rattle.files.proofs.Extents.{count-bytes, count-records}
 use native.Mathlib.Omega.{arith}

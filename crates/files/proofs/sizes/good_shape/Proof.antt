@@ -1,3 +1,4 @@
+-- `files::sizes::good_shape` meets its contract. Assumes nothing.
 use borrow.Author.Tests.{eq-eqb, ne-eqb}
 use Rattle.files.specs.Types.{goodShape}
 use Rattle.files.proofs.sizes.good_shape.Statement.{statement}

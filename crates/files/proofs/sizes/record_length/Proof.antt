@@ -1,3 +1,4 @@
+-- `files::sizes::record_length` meets its contract. Assumes nothing.
 use mathlib.Core.Path.{sym, _∙_}
 use Rattle.files.proofs.Extents.{length-bytes, length-records}
 use native.Mathlib.Omega.{arith}

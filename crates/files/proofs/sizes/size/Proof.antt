@@ -1,3 +1,4 @@
+-- `files::sizes::size` meets its contract. Assumes nothing.
 use mathlib.Core.Path.{sym, _∙_, ap}
 use Rattle.files.proofs.Extents.{size-bytes, size-records, bytes-product}
 use native.Mathlib.Omega.{arith}

@@ -1,3 +1,4 @@
+-- `files::sound::is_sound` meets its contract. Assumes nothing.
 use mathlib.Core.Path.{_≡_, sym, _∙_}
 use lib.ListN.{length, length-map}
 use borrow.Author.Tests.{eq-eqb}

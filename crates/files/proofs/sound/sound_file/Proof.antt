@@ -1,3 +1,4 @@
+-- `files::sound::sound_file` meets its contract. Assumes nothing.
 use Rattle.files.specs.Sound.{soundFile}
 use borrow.Author.Needs.{needs}
 use Rattle.files.proofs.sound.sound_file.Statement.{statement}

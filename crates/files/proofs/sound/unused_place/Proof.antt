@@ -1,3 +1,4 @@
+-- `files::sound::unused_place` meets its contract. Assumes nothing.
 use Rattle.files.specs.Sound.{unusedPlace}
 use Rattle.files.proofs.sound.unused_place.Statement.{statement}
 use Rattle.files.proofs.sound.unused_place.Tie as tie

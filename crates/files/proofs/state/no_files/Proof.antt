@@ -1,3 +1,4 @@
+-- `files::state::no_files` meets its contract. Assumes nothing.
 use Rattle.files.proofs.state.no_files.Statement.{statement}
 use Rattle.files.proofs.state.no_files.Tie as tie
 

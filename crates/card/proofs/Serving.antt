@@ -1,0 +1,198 @@
+-- The commands on files: where every check passed on a sound card, the files serve.
+-- Assumes nothing.
+use mathlib.Core.Path.{_≡_, refl, ap, ap₂, sym, _∙_, subst}
+use mathlib.Core.Bool.{Bool, true, false, cond, _||_}
+use mathlib.Core.List.{List, [], _∷_, _++_}
+use Prim.Native.Nat.{ℕ, _+_, _-_, _/_, _≤_, _<_}
+use native.Mathlib.Omega.{arith}
+use lib.ListN.{length}
+use lib.Dec.{leb, eqb}
+use borrow.Author.Tests.{le-leb, leb-true, eqb-true}
+use Rattle.files.specs.declared.File.{File}
+use Rattle.files.specs.declared.Directory.{Directory}
+use Rattle.files.specs.declared.DirectoryAnswer.{DirectoryAnswer}
+use Rattle.files.specs.State.{withFile, directoryAnswer}
+use Rattle.files.specs.Part.{part, splice, over, zeros, shown, stored, shows as showsIn, Reading, Writing, DirectoryWriting}
+use Rattle.files.specs.Types.{size, recordLength}
+use Rattle.files.specs.Directory.{file, start, end, inArea}
+use Rattle.files.specs.Binary.{inBinary, readsBinary, onArea}
+use Rattle.files.specs.Record.{recordStart, nextStart, appended, soundHeld, inRecords, readsRecord, updatesRecord, appendsRecord}
+use Rattle.files.specs.Create.{created, creates}
+use Rattle.files.specs.Sound.{soundDirectory}
+use Rattle.files.proofs.Checks.{join, both}
+use Rattle.files.proofs.Served.{binary-fits}
+use Rattle.files.proofs.Kept.{filed}
+use Rattle.files.proofs.Lists.{record-fits}
+use Rattle.rules.specs.declared.Card.{Card}
+use Rattle.rules.specs.Words.{first, unless}
+use Rattle.rules.specs.State.{Logins, withCurrent, withDirectory}
+use Rattle.rules.specs.Sound.{sound, goodLength}
+use Rattle.rules.specs.Pins.{pinGiven, changeChecks, reloadChecks}
+use Rattle.rules.specs.Device.{getChallengeChecks}
+use Rattle.rules.specs.Frame.{Command, lc}
+use Rattle.rules.specs.Effect.{Effect, shows, stores}
+use Rattle.rules.specs.Binary.{target, fileOf, fileSw, binarySfi, binaryTarget, offset, readBinaryChecks, readBinaryEffect, updateBinaryChecks, updateBinaryEffect}
+use Rattle.rules.specs.Record.{recordTarget, readRecordChecks, readRecordEffect, updateRecordChecks, updateRecordEffect, appendChecks, appendEffect}
+use Rattle.rules.specs.Create.{fileGiven, createChecks, createEffect}
+use Rattle.rules.proofs.Checks.{Passed, passed, holds, one-of}
+use Rattle.rules.proofs.Good.{good}
+use Rattle.rules.proofs.Targets.{target-low, place-in-area, place-held, place-shaped, place-run, Shaped}
+use Rattle.rules.proofs.Asked.{challenge-asked, some-file, some-number, binary-asked, record-asked, update-asked, append-asked, create-asked}
+use Rattle.card.specs.declared.Carried.{Carried}
+use Rattle.card.specs.Carried.{Ready, carried, Stores, Shows, Says}
+
+-- a sound directory has at most 16 files
+pub count-few : (c : Card) → sound c ≡ true → c .directory .count ≤ 16
+count-few c h = filed (c .directory) (good c h .directory) .few
+
+-- a read that is served shows, a write that is served stores
+reading-shows : (c : Card) (from n : ℕ) (area reply reply′ : List ℕ) (ok answer : Bool) (r : Carried) → ok ≡ true → Reading ok (part from n area) reply answer reply′
+    → r ≡ carried c 0x9000 0 n → from + n ≤ length area → n ≤ 256 → Shows (shows c from n) area reply r reply′
+unfolding shown
+reading-shows c from n area reply reply′ ok answer r t h e i f = record {
+  answer-is = e;
+  inside = i;
+  few = f;
+  reply-is = h .left-is ∙ rw t;
+}
+
+pub stored-all : (ok : Bool) (area area′ : List ℕ) (into : ℕ) (bytes : List ℕ) → ok ≡ true → area′ ≡ stored ok area into bytes → area′ ≡ splice area into bytes
+unfolding stored
+stored-all ok area area′ into bytes t h = h ∙ rw t
+
+-- the check for a file, in the two lists that hide it
+update-file : (c : Card) (k : Command) → Passed (updateRecordChecks c k) → fileSw (recordTarget c k) ≡ 0x9000
+unfolding updateRecordChecks
+update-file c k p = p .1 .1 .0
+
+append-file : (c : Card) (k : Command) → Passed (appendChecks c k) → fileSw (recordTarget c k) ≡ 0x9000
+unfolding appendChecks
+append-file c k p = p .1 .1 .0
+
+-- there is a file, and its extent lies in the area
+module _ (c : Card) (area : List ℕ) (h : Ready c area) where
+  directory-sound : soundDirectory (c .directory) ≡ true
+  directory-sound = good c (h .is-sound) .directory
+
+  on-area : (sfi : ℕ) (asked : Bool) → 1 ≤ target c sfi → asked ≡ true → onArea (c .directory) (target c sfi) (length area) asked ≡ true
+  on-area sfi asked some t =
+      join (subst (λ (n : ℕ). inArea (c .directory) (target c sfi) n ≡ true) (sym (h .area-size))
+      (place-in-area (c .directory) directory-sound (target c sfi) some (target-low c (h .is-sound) sfi))) t
+
+  run-inside : (sfi a n : ℕ) → 1 ≤ target c sfi → a + n ≤ size (fileOf c (target c sfi)) → start (c .directory) (target c sfi) + a + n ≤ length area
+  run-inside sfi a n some k =
+      omega (arith, place-run (c .directory) directory-sound (target c sfi) some (target-low c (h .is-sound) sfi) a n k, h .area-size)
+
+  held : (sfi : ℕ) → 1 ≤ target c sfi → soundHeld (fileOf c (target c sfi)) ≡ true
+  held sfi some = place-held (c .directory) directory-sound (target c sfi) some (target-low c (h .is-sound) sfi)
+
+  module _ (k : Command) (place : ℕ) (r : Carried) where
+    pub binary-read : (off : ℕ) (reply reply′ : List ℕ) (answer : Bool) → first (readBinaryChecks c k) ≡ 0x9000 → k .le ≤ 256 → 256 ≤ length reply
+        → place ≡ binaryTarget c k → off ≡ offset k
+        → Reading (onArea (c .directory) place (length area) (readsBinary (file (c .directory) place) off (k .le) (length reply))) (part (start (c .directory) place + off) (k .le) area) reply answer reply′
+        → r ≡ carried (withCurrent c place) 0x9000 0 (k .le) → Shows (readBinaryEffect c k) area reply r reply′
+    unfolding readBinaryChecks readsBinary
+    binary-read off reply reply′ answer checked few room e f served is =
+        let p = passed (readBinaryChecks c k) checked in
+        let some = some-file (binaryTarget c k) (p .1 .1 .0) in
+        let asked = binary-asked c (binaryTarget c k) (fileOf c (binaryTarget c k) .read) (offset k) (k .le) (p .1 .1) in
+        reading-shows (withCurrent c (binaryTarget c k)) (start (c .directory) (binaryTarget c k) + offset k) (k .le) area reply reply′ _ answer r
+        (on-area (binarySfi k) _ some (join asked (le-leb (k .le) (length reply) (omega arith))))
+        (rw (e, f) at served) (is ∙ ap (λ (t : ℕ). carried (withCurrent c t) 0x9000 0 (k .le)) e)
+        (run-inside (binarySfi k) (offset k) (k .le) some (binary-fits (fileOf c (binaryTarget c k)) (offset k) (k .le) asked)) few
+
+    pub binary-updated : (off : ℕ) (area′ : List ℕ) (answer : Bool) → first (updateBinaryChecks c k) ≡ 0x9000 → place ≡ binaryTarget c k → off ≡ offset k
+        → Writing (onArea (c .directory) place (length area) (inBinary (file (c .directory) place) off (lc k))) area (start (c .directory) place + off) (k .given) answer area′
+        → r ≡ carried (withCurrent c place) 0x9000 0 0 → Stores (updateBinaryEffect c k) area r area′
+    unfolding updateBinaryChecks
+    binary-updated off area′ answer checked e f served is =
+        let p = passed (updateBinaryChecks c k) checked in
+        let some = some-file (binaryTarget c k) (p .1 .1 .0) in
+        let asked = binary-asked c (binaryTarget c k) (fileOf c (binaryTarget c k) .write) (offset k) (lc k) (p .1 .1) in
+        record {
+          answer-is = is ∙ ap (λ (t : ℕ). carried (withCurrent c t) 0x9000 0 0) e;
+          area-is = stored-all _ area area′ _ (k .given) (on-area (binarySfi k) _ some asked) ((rw (e, f) at served) .left-is);
+        }
+
+    pub record-read : (n : ℕ) (reply reply′ : List ℕ) (answer : Bool) → first (readRecordChecks c k) ≡ 0x9000 → 256 ≤ length reply → place ≡ recordTarget c k
+        → n ≡ recordLength (file (c .directory) place)
+        → Reading (onArea (c .directory) place (length area) (readsRecord (file (c .directory) place) (k .p1) (length reply))) (part (start (c .directory) place + recordStart (file (c .directory) place) (k .p1)) (recordLength (file (c .directory) place)) area) reply answer reply′
+        → r ≡ carried (withCurrent c place) 0x9000 0 n → Shows (readRecordEffect c k) area reply r reply′
+    unfolding readRecordChecks readsRecord
+    record-read n reply reply′ answer checked room e f served is =
+        let t = recordTarget c k in
+        let p = passed (readRecordChecks c k) checked in
+        let some = some-file t (p .1 .1 .0) in
+        let asked = record-asked c t (fileOf c t .read) (k .p1) _ (held (k .p2 / 8) some) (some-number k (p .0)) (p .1 .1) in
+        let short : recordLength (fileOf c t) ≤ 178 = place-shaped (c .directory) directory-sound t some (target-low c (h .is-sound) (k .p2 / 8)) .long in
+        reading-shows (withCurrent c t) (start (c .directory) t + recordStart (fileOf c t) (k .p1)) (recordLength (fileOf c t)) area reply reply′ _ answer r
+        (on-area (k .p2 / 8) _ some (join asked (le-leb (recordLength (fileOf c t)) (length reply) (omega arith))))
+        (rw e at served) (is ∙ ap₂ (λ (t m : ℕ). carried (withCurrent c t) 0x9000 0 m) e (f ∙ ap (λ (t : ℕ). recordLength (file (c .directory) t)) e))
+        (run-inside (k .p2 / 8) (recordStart (fileOf c t) (k .p1)) (recordLength (fileOf c t)) some (record-fits (fileOf c t) (k .p1) asked)) (omega arith)
+
+    pub record-updated : (area′ : List ℕ) (answer : Bool) → first (updateRecordChecks c k) ≡ 0x9000 → place ≡ recordTarget c k
+        → Writing (onArea (c .directory) place (length area) (updatesRecord (file (c .directory) place) (k .p1) (lc k))) area (start (c .directory) place + recordStart (file (c .directory) place) (k .p1)) (k .given) answer area′
+        → r ≡ carried (withCurrent c place) 0x9000 0 0 → Stores (updateRecordEffect c k) area r area′
+    record-updated area′ answer checked e served is =
+        let t = recordTarget c k in
+        let p = passed (updateRecordChecks c k) checked in
+        let some = some-file t (update-file c k p) in
+        record {
+          answer-is = is ∙ ap (λ (t : ℕ). carried (withCurrent c t) 0x9000 0 0) e;
+          area-is = stored-all _ area area′ _ (k .given) (on-area (k .p2 / 8) _ some (update-asked c k (held (k .p2 / 8) some) p)) ((rw e at served) .left-is);
+        }
+
+    pub record-appended : (area′ : List ℕ) (answer : DirectoryAnswer) → first (appendChecks c k) ≡ 0x9000 → place ≡ recordTarget c k
+        → DirectoryWriting (onArea (c .directory) place (length area) (appendsRecord (file (c .directory) place) (lc k))) (withFile (c .directory) (place - 1) (appended (file (c .directory) place))) (c .directory) area (start (c .directory) place + nextStart (file (c .directory) place)) (k .given) answer area′
+        → r ≡ carried (withCurrent (withDirectory c (answer .directory)) place) 0x9000 0 0 → Stores (appendEffect c k) area r area′
+    record-appended area′ answer checked e served is =
+        let t = recordTarget c k in
+        let p = passed (appendChecks c k) checked in
+        let some = some-file t (append-file c k p) in
+        let on = on-area (k .p2 / 8) _ some (append-asked c k (held (k .p2 / 8) some) p) in
+        let at = rw e at served in
+        record {
+          answer-is = is ∙ ap₂ (λ (d : Directory) (t : ℕ). carried (withCurrent (withDirectory c d) t) 0x9000 0 0) (ap (λ (a : DirectoryAnswer). a .directory) (at .answer-is) ∙ rw on) e;
+          area-is = stored-all _ area area′ _ (k .given) on (at .left-is);
+        }
+
+  pub file-created : (k : Command) (f : File) (r : Carried) (place : ℕ) (area′ : List ℕ) (answer : DirectoryAnswer) → first (createChecks c k) ≡ 0x9000 → f ≡ fileGiven k
+      → DirectoryWriting (creates (c .directory) f (length area)) (created (c .directory) f) (c .directory) area (end (c .directory)) (zeros (size f)) answer area′
+      → place ≡ c .directory .count + 1 → r ≡ carried (withCurrent (withDirectory c (answer .directory)) place) 0x9000 0 0 → Stores (createEffect c k) area r area′
+  file-created k f r place area′ answer checked e served g is =
+      let at = rw (e, h .area-size) at served in
+      let on = create-asked c k (passed (createChecks c k) checked) in
+      record {
+        answer-is = is ∙ ap₂ (λ (d : Directory) (t : ℕ). carried (withCurrent (withDirectory c d) t) 0x9000 0 0) (ap (λ (a : DirectoryAnswer). a .directory) (at .answer-is) ∙ rw on) g;
+        area-is = stored-all _ area area′ _ (zeros (size (fileGiven k))) on (at .left-is);
+      }
+
+-- a PIN that passed its checks is at most 16 bytes
+pin-few : (k : Command) → unless (pinGiven k) 0x6700 ≡ 0x9000 → length (k .given) ≤ 16
+pin-few k h =
+    leb-true _ _ (both (leb 6 (lc k)) (leb (lc k) 16) (both (eqb (k .case) 3) (goodLength (lc k)) (holds (pinGiven k) 0x6700 refl h) .1) .1)
+
+pub change-few : (l : Logins) (k : Command) → first (changeChecks l k) ≡ 0x9000 → length (k .given) ≤ 16
+unfolding changeChecks
+change-few l k h = pin-few k (passed (changeChecks l k) h .1 .0)
+
+pub reload-few : (l : Logins) (k : Command) → first (reloadChecks l k) ≡ 0x9000 → length (k .given) ≤ 16
+unfolding reloadChecks
+reload-few l k h = pin-few k (passed (reloadChecks l k) h .1 .0)
+
+-- a challenge that passed its checks is at most 16 bytes
+pub challenge-few : (k : Command) → first (getChallengeChecks k) ≡ 0x9000 → k .le ≤ 16
+challenge-few k h =
+    let g = challenge-asked k (passed (getChallengeChecks k) h) in
+    one-of (eqb (k .le) 4) (eqb (k .le) 8 || eqb (k .le) 16) g (λ e. omega (arith, eqb-true (k .le) 4 e))
+    (λ g. one-of (eqb (k .le) 8) (eqb (k .le) 16) g (λ e. omega (arith, eqb-true (k .le) 8 e)) (λ e. omega (arith, eqb-true (k .le) 16 e)))
+
+-- a challenge is shown whole
+pub challenge-shown : (c : Card) (n : ℕ) (random reply reply′ : List ℕ) (answer : Bool) (r : Carried) → length random ≡ 16 → 256 ≤ length reply → n ≤ 16
+    → Reading (showsIn (length random) 0 n (length reply)) (part 0 n random) reply answer reply′ → r ≡ carried c 0x9000 n n → Says c n random reply r reply′
+unfolding shown showsIn part
+challenge-shown c n random reply reply′ answer r size room few h e = record {
+  answer-is = e;
+  few = few;
+  reply-is = h .left-is ∙ rw (le-leb (0 + n) (length random) (omega arith), le-leb n (length reply) (omega arith));
+}

@@ -1,0 +1,2 @@
+-- Statements about document 01's rules.
+pub mod Soundness

@@ -1,0 +1,114 @@
+-- What a command addresses: of a sound directory each used place, of a sound file its shape, of a sound card the target of an SFI.
+use Prim.Native.Nat.{ℕ, _+_, _-_, _≤_}
+use mathlib.Core.Bool.{true, false}
+use mathlib.Core.List.{[], _∷_}
+use mathlib.Core.Path.{_≡_}
+use native.Mathlib.Omega.{arith}
+use lib.Dec.{eqb, leb}
+use borrow.Author.Tests.{eqb-true, eqb-false, leb-true, le-leb}
+use Rattle.files.specs.declared.File.{File}
+use Rattle.files.specs.declared.Directory.{Directory}
+use Rattle.files.specs.Words.{isZero}
+use Rattle.files.specs.Types.{binary, hasRecords, count, recordLength, size, goodShape}
+use Rattle.files.specs.Rights.{goodRights}
+use Rattle.files.specs.Directory.{sfi, goodSfi, used, file, start, isPlace, inArea, ofFid, ofSfi, findFid, findSfi}
+use Rattle.files.specs.Record.{soundHeld}
+use Rattle.files.specs.Create.{goodContents}
+use Rattle.files.specs.Sound.{soundFile, soundDirectory}
+use Rattle.files.proofs.Checks.{each, join, split}
+use Rattle.files.proofs.Extents.{length-bytes, used-is, lies, seek-low}
+use Rattle.files.proofs.Kept.{filed, file-sound, sound-in-area}
+use Rattle.rules.specs.declared.Card.{Card}
+use Rattle.rules.specs.Frame.{Command}
+use Rattle.rules.specs.Select.{root, fidGiven, selected}
+use Rattle.rules.specs.Binary.{target}
+use Rattle.rules.specs.Sound.{sound}
+use Rattle.rules.proofs.Good.{good}
+
+pub not-zero : (place : ℕ) → isZero place ≡ false → 1 ≤ place
+not-zero place h = let e : place ≡ 0 → ⊥ = eqb-false place 0 h in omega (arith, e)
+
+-- what a sound file has, of any type
+pub record Shaped (f : File) : Type 0 where
+  pub some : 1 ≤ count f
+  pub many : count f ≤ 4096
+  pub short : 1 ≤ recordLength f
+  pub long : recordLength f ≤ 178
+
+shape : (f : File) → goodShape f ≡ true → Shaped f
+unfolding goodShape
+shape f =
+    split (λ b. b ≡ true → Shaped f) (eqb (f .kind) binary)
+    (λ k h. let e = each (leb 1 (count f) ∷ leb (count f) 4096 ∷ []) h in
+    let l : recordLength f ≡ 1 = length-bytes f (eqb-true _ _ k) in
+    record { some = leb-true _ _ (e .0); many = leb-true _ _ (e .1); short = omega arith; long = omega arith })
+    (λ k h. let e = each (hasRecords f ∷ leb 2 (count f) ∷ leb (count f) 254 ∷ leb 1 (recordLength f) ∷ leb (recordLength f) 178 ∷ []) h in
+    let low : 2 ≤ count f = leb-true _ _ (e .1 .0) in
+    let high : count f ≤ 254 = leb-true _ _ (e .1 .1 .0) in
+    record { some = omega arith; many = omega arith; short = leb-true _ _ (e .1 .1 .1 .0); long = leb-true _ _ (e .1 .1 .1 .1) })
+
+module _ (f : File) (h : soundFile f ≡ true) where
+  pub file-contents : goodContents f ≡ true
+  unfolding soundFile
+  file-contents = each (goodSfi (sfi f) ∷ goodContents f ∷ soundHeld f ∷ []) h .1 .0
+
+  pub file-held : soundHeld f ≡ true
+  unfolding soundFile
+  file-held = each (goodSfi (sfi f) ∷ goodContents f ∷ soundHeld f ∷ []) h .1 .1
+
+  pub file-shape : goodShape f ≡ true
+  unfolding goodContents
+  file-shape = each (goodShape f ∷ goodRights (f .read) ∷ goodRights (f .write) ∷ []) file-contents .0
+
+  pub shaped : Shaped f
+  shaped = shape f file-shape
+
+-- of a sound directory
+module _ (d : Directory) (h : soundDirectory d ≡ true) where
+  pub used-count : used d ≡ d .count
+  used-count = used-is d (filed d h .few)
+
+  pub fid-low : (n : ℕ) → findFid d n ≤ d .count
+  unfolding findFid
+  fid-low n = omega (arith, seek-low (ofFid n) (d .files) (used d), used-count)
+
+  pub sfi-low : (n : ℕ) → findSfi d n ≤ d .count
+  unfolding findSfi
+  sfi-low n = omega (arith, seek-low (ofSfi n) (d .files) (used d), used-count)
+
+  -- a place plus one that is not 0, and at most the count
+  module _ (place : ℕ) (some : 1 ≤ place) (low : place ≤ d .count) where
+    pub place-named : isPlace d place ≡ true
+    unfolding isPlace
+    place-named = join (le-leb 1 place some) (le-leb place (used d) (omega (arith, used-count)))
+
+    pub place-in-area : inArea d place 4096 ≡ true
+    place-in-area = sound-in-area d h place place-named
+
+    pub place-sound : soundFile (file d place) ≡ true
+    place-sound = file-sound d (filed d h) (place - 1) (omega arith)
+
+    pub place-held : soundHeld (file d place) ≡ true
+    place-held = file-held (file d place) place-sound
+
+    pub place-shaped : Shaped (file d place)
+    place-shaped = shaped (file d place) place-sound
+
+    pub place-size : size (file d place) ≤ 4096
+    place-size = omega (arith, lies d place 4096 place-in-area .fits)
+
+    -- n bytes from a on of the file, as bytes of the area
+    pub place-run : (a n : ℕ) → a + n ≤ size (file d place) → start d place + a + n ≤ 4096
+    place-run a n k = omega (arith, lies d place 4096 place-in-area .fits)
+
+-- of a sound card
+module _ (c : Card) (h : sound c ≡ true) where
+  pub target-low : (sfi : ℕ) → target c sfi ≤ c .directory .count
+  unfolding target
+  target-low sfi =
+      split (λ n. n ≤ c .directory .count) (isZero sfi) (λ e. good c h .current) (λ e. sfi-low (c .directory) (good c h .directory) sfi)
+
+  pub selected-low : (k : Command) → selected c k ≤ c .directory .count
+  selected-low k =
+      split (λ n. n ≤ c .directory .count) (eqb (fidGiven k) root) (λ e. omega arith)
+      (λ e. fid-low (c .directory) (good c h .directory) (fidGiven k))
