@@ -6,7 +6,7 @@ strict=(-Wall -Wextra -pedantic -Werror -Iinclude)
 # has PACKAGE: whether what is used here of that Debian package is there.
 has() {
     case $1 in
-    gcc | g++ | openssl) command -v "$1" ;;
+    gcc | g++ | openssl | python3) command -v "$1" ;;
     libc6-dev) gcc -E -include stdio.h -x c /dev/null ;;
     libssl-dev) gcc -E -include openssl/evp.h -x c /dev/null ;;
     *) return 1 ;;

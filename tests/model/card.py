@@ -1,0 +1,684 @@
+"""A second reading of document 01: the card, in plain Python.
+
+This model was written from the paper alone. It exists to be compared with the proved program, so it favours the
+order and the words of the paper over speed or cleverness, and shares nothing with the code that it is compared to.
+Numbers with two hex digits in the commands are hex, as in the paper.
+"""
+
+from functools import lru_cache
+
+# ---------------------------------------------------------------------------------------------------------------------
+# AES-128 of one block (FIPS 197)
+# ---------------------------------------------------------------------------------------------------------------------
+
+
+def _times_x(value):
+    """A byte times x in the field of FIPS 197, 4.2.1."""
+    value <<= 1
+    return value ^ 0x11B if value & 0x100 else value
+
+
+def _times(left, right):
+    """The product of two bytes in that field, 4.2."""
+    product = 0
+    while right:
+        if right & 1:
+            product ^= left
+        left = _times_x(left)
+        right >>= 1
+    return product
+
+
+def _s_box():
+    """The S-box of 5.1.1: the inverse of the byte, then the affine step.
+
+    The powers of 03 are all the bytes but 00, and F6 is the inverse of 03, so walking the powers of both side by side
+    meets every byte together with its inverse. 00 stands for its own inverse.
+    """
+    box = [0x63] * 256
+    value, inverse = 1, 1
+    for _ in range(255):
+        result = 0x63
+        for turn in range(5):
+            result ^= ((inverse << turn) | (inverse >> (8 - turn))) & 0xFF
+        box[value] = result
+        value, inverse = _times(value, 0x03), _times(inverse, 0xF6)
+    return box
+
+
+S_BOX = _s_box()
+TIMES_2 = [_times_x(value) for value in range(256)]
+TIMES_3 = [_times_x(value) ^ value for value in range(256)]
+
+# Where each byte of a block comes from when row r turns left by r (the bytes stand column by column).
+SHIFTED = [(place + 4 * (place % 4)) % 16 for place in range(16)]
+
+
+@lru_cache(maxsize=256)
+def _round_keys(key):
+    """Eleven keys of 16 bytes (5.2)."""
+    words = [list(key[place:place + 4]) for place in range(0, 16, 4)]
+    round_constant = 1
+    for number in range(4, 44):
+        word = list(words[number - 1])
+        if number % 4 == 0:
+            word = [S_BOX[byte] for byte in word[1:] + word[:1]]
+            word[0] ^= round_constant
+            round_constant = _times_x(round_constant)
+        words.append([left ^ right for left, right in zip(words[number - 4], word)])
+    return [sum(words[place:place + 4], []) for place in range(0, 44, 4)]
+
+
+def encrypt(key, block):
+    """AES-128 of one block of 16 bytes (5.1)."""
+    keys = _round_keys(bytes(key))
+    state = [byte ^ mask for byte, mask in zip(block, keys[0])]
+    for round_key in keys[1:10]:
+        state = [S_BOX[state[place]] for place in SHIFTED]
+        mixed = []
+        for column in range(0, 16, 4):
+            a, b, c, d = state[column:column + 4]
+            mixed += [
+                TIMES_2[a] ^ TIMES_3[b] ^ c ^ d,
+                a ^ TIMES_2[b] ^ TIMES_3[c] ^ d,
+                a ^ b ^ TIMES_2[c] ^ TIMES_3[d],
+                TIMES_3[a] ^ b ^ c ^ TIMES_2[d],
+            ]
+        state = [byte ^ mask for byte, mask in zip(mixed, round_key)]
+    return bytes(S_BOX[state[place]] ^ mask for place, mask in zip(SHIFTED, keys[10]))
+
+
+def cipher(key, block, output):
+    """The cipher as a call: outcome 6 leaves the output as it was."""
+    if len(key) != 16 or len(block) != 16 or len(output) != 16:
+        return 6
+    output[:] = encrypt(key, block)
+    return 0
+
+
+# A wrong cipher would make every comparison worthless, so no import succeeds with one (FIPS 197, C.1).
+if encrypt(bytes(range(16)), bytes.fromhex("00112233445566778899AABBCCDDEEFF")) != bytes.fromhex(
+        "69C4E0D86A7B0430D8CDB78070B4C55A"):
+    raise AssertionError("the model's AES-128 fails the vector of FIPS 197 C.1")
+
+# ---------------------------------------------------------------------------------------------------------------------
+# What a card holds
+# ---------------------------------------------------------------------------------------------------------------------
+
+AREA_SIZE = 4096
+MOST_FILES = 16
+
+BINARY, FIXED, CYCLIC = 0x28, 0x2A, 0x2E
+
+# Rights byte: bit 8 admin, bit 7 user, bit 1 device; every set bit must be held; 00 is free; 0F means never.
+ADMIN_BIT, USER_BIT, DEVICE_BIT = 0x80, 0x40, 0x01
+NEVER = 0x0F
+
+NO_CHALLENGE = b""
+
+
+class Credential:
+    """The device key or a PIN, with its limit, its tries left and whether its right is held in this session."""
+
+    __slots__ = ("value", "limit", "tries", "held")
+
+    def __init__(self, value=b"", limit=0):
+        self.value = value
+        self.limit = limit
+        self.tries = limit
+        self.held = False
+
+
+class File:
+    """One place of the directory.
+
+    A binary file uses `size`. A record file uses `count` and `length`. `records` is the stored number of records held
+    and `newest` the place of the newest; only a 2E file uses these two.
+    """
+
+    __slots__ = ("fid", "kind", "size", "count", "length", "read", "write", "start", "records", "newest")
+
+    def __init__(self, fid, kind, size, count, length, read, write, start):
+        self.fid = fid
+        self.kind = kind
+        self.size = size
+        self.count = count
+        self.length = length
+        self.read = read
+        self.write = write
+        self.start = start
+        self.records = 0
+        self.newest = 0
+
+    @property
+    def sfi(self):
+        return self.fid & 0x1F
+
+    @property
+    def extent(self):
+        """How many bytes of the data area are this file's."""
+        return self.size if self.kind == BINARY else self.count * self.length
+
+    def records_held(self):
+        """A 2A file holds all its records from creation, a 2E file as many as it knows of."""
+        return self.count if self.kind == FIXED else self.records
+
+    def record_start(self, number):
+        """Where in the data area record `number` (from 1) begins.
+
+        2A: number n in place n - 1. 2E: number 1 is the newest, older ones stand in the places before it; places
+        count from 0, and place 0 follows the last.
+        """
+        place = number - 1 if self.kind == FIXED else (self.newest - (number - 1)) % self.count
+        return self.start + place * self.length
+
+
+class Card:
+    """Credentials, directory and session. The data area is lent and stands beside it. As made here: a blank state.
+
+    PINs and the challenge are kept in exactly their length and the directory in exactly its files, so the unused
+    fields behind them do not exist here.
+    """
+
+    __slots__ = ("device", "admin", "user", "files", "current", "challenge")
+
+    def __init__(self):
+        self.device = Credential()
+        self.admin = Credential()
+        self.user = Credential()
+        self.files = []
+        self.current = None
+        self.challenge = NO_CHALLENGE
+
+
+def is_pin(value):
+    """6 to 16 bytes, each 30 to 39."""
+    return 6 <= len(value) <= 16 and are_digits(value)
+
+
+def are_digits(value):
+    return all(0x30 <= byte <= 0x39 for byte in value)
+
+
+def is_limit(limit):
+    return 1 <= limit <= 128
+
+
+def is_bad_rights_byte(byte):
+    """Any bit set other than the three, apart from 0F."""
+    return byte != NEVER and byte & ~(ADMIN_BIT | USER_BIT | DEVICE_BIT) != 0
+
+
+def is_allowed(card, byte):
+    """Whether a rights byte lets the session pass."""
+    if byte == NEVER:
+        return False
+    if byte & ADMIN_BIT and not card.admin.held:
+        return False
+    if byte & USER_BIT and not card.user.held:
+        return False
+    if byte & DEVICE_BIT and not card.device.held:
+        return False
+    return True
+
+
+def is_file_shape(kind, size, count, length):
+    """28: 1 to 4,096 bytes. 2A and 2E: 2 to 254 records of 1 to 178 bytes."""
+    if kind == BINARY:
+        return 1 <= size <= 4096
+    if kind in (FIXED, CYCLIC):
+        return 2 <= count <= 254 and 1 <= length <= 178
+    return False
+
+
+def is_sound(card):
+    """A state is sound when all of "What a card holds" holds of it."""
+    if len(card.device.value) != 16 or not is_pin(card.admin.value) or not is_pin(card.user.value):
+        return False
+    for credential in (card.device, card.admin, card.user):
+        if not is_limit(credential.limit) or not 0 <= credential.tries <= credential.limit:
+            return False
+        if credential.held and credential.tries != credential.limit:
+            return False
+
+    if len(card.files) > MOST_FILES:
+        return False
+    end = 0
+    sfis = set()
+    for file in card.files:
+        sfi = file.fid & 0x1F
+        if not 0 <= file.fid <= 0xFFFF or not 1 <= sfi <= 30 or sfi in sfis:
+            return False
+        sfis.add(sfi)
+        if not is_file_shape(file.kind, file.size, file.count, file.length):
+            return False
+        if is_bad_rights_byte(file.read) or is_bad_rights_byte(file.write):
+            return False
+        if file.kind == CYCLIC:
+            if not 0 <= file.records <= file.count or not 0 <= file.newest < file.count:
+                return False
+            if file.records == 0 and file.newest != 0:
+                return False
+        elif file.records != 0 or file.newest != 0:
+            return False
+        if file.start != end:
+            return False
+        end += file.extent
+    if end > AREA_SIZE:
+        return False
+
+    if card.current is not None and card.current not in card.files:
+        return False
+    return len(card.challenge) in (0, 4, 8, 16)
+
+
+# ---------------------------------------------------------------------------------------------------------------------
+# Calls that are not served
+# ---------------------------------------------------------------------------------------------------------------------
+
+SMALLEST_REPLY = 258
+
+
+def issue(area, key, key_limit, admin_pin, admin_limit, user_pin, user_limit):
+    """Outcome and card. A refused issue gives a blank state and leaves the area as it is."""
+    if len(area) != AREA_SIZE:
+        return 2, Card()
+    if len(key) != 16 or not is_pin(admin_pin) or not is_pin(user_pin):
+        return 5, Card()
+    if not is_limit(key_limit) or not is_limit(admin_limit) or not is_limit(user_limit):
+        return 5, Card()
+    card = Card()
+    card.device = Credential(key, key_limit)
+    card.admin = Credential(admin_pin, admin_limit)
+    card.user = Credential(user_pin, user_limit)
+    area[:] = bytes(AREA_SIZE)
+    return 0, card
+
+
+def reset(card):
+    """Clears rights, current file and challenge only."""
+    if not is_sound(card):
+        return 4
+    for credential in (card.device, card.admin, card.user):
+        credential.held = False
+    card.current = None
+    card.challenge = NO_CHALLENGE
+    return 0
+
+
+def command(card, area, sent, random, reply):
+    """One command as a call: the outcome, and how many bytes of the reply buffer were written (data, then SW)."""
+    if len(reply) < SMALLEST_REPLY:
+        return 1, 0
+    if len(area) != AREA_SIZE:
+        return 2, 0
+    if len(random) != 16:
+        return 3, 0
+    if not is_sound(card):
+        return 4, 0
+    data, sw = serve(card, area, sent, random)
+    written = len(data) + 2
+    reply[:written] = data + bytes((sw >> 8, sw & 0xFF))
+    return 0, written
+
+
+# ---------------------------------------------------------------------------------------------------------------------
+# Framing
+# ---------------------------------------------------------------------------------------------------------------------
+
+
+class Frame:
+    """A command cut into its parts. `le` is 256 where the byte sent is 00; `data` has the length Lc."""
+
+    __slots__ = ("case", "p1", "p2", "data", "le")
+
+    def __init__(self, case, p1, p2, data, le):
+        self.case = case
+        self.p1 = p1
+        self.p2 = p2
+        self.data = data
+        self.le = le
+
+
+def frame_of(sent):
+    """The frame, or None for all else (6700)."""
+    length = len(sent)
+    if length < 4:
+        return None
+    if length == 4:
+        return Frame(1, sent[2], sent[3], b"", None)
+    fifth = sent[4]
+    if length == 5:
+        return Frame(2, sent[2], sent[3], b"", fifth or 256)
+    if fifth != 0:
+        if length == 5 + fifth:
+            return Frame(3, sent[2], sent[3], sent[5:], None)
+        if length == 6 + fifth:
+            return Frame(4, sent[2], sent[3], sent[5:-1], sent[-1] or 256)
+    return None
+
+
+def serve(card, area, sent, random):
+    """A served command: data and SW. The challenge serves only the command that follows it."""
+    frame = frame_of(sent)
+    row = None
+    if frame is None:
+        answer = refused(0x6700)
+    elif sent[0] not in (0x00, 0x80):
+        answer = refused(0x6E00)
+    else:
+        row = ROWS.get((sent[0], sent[1]))
+        if row is None:
+            answer = refused(0x6D00)
+        else:
+            answer = row(card, area, frame, random)
+
+    # Only a GET CHALLENGE that ends 9000 leaves a challenge.
+    if row is not get_challenge or answer[1] != 0x9000:
+        card.challenge = NO_CHALLENGE
+    return answer
+
+
+# ---------------------------------------------------------------------------------------------------------------------
+# The twelve commands
+#
+# Each takes the card, the area, the frame and the random input, runs its checks in the order written and gives data
+# and SW. The first check that fails gives the SW, no data, and a change only where said.
+# ---------------------------------------------------------------------------------------------------------------------
+
+DONE = (b"", 0x9000)
+
+
+def refused(sw):
+    return b"", sw
+
+
+def file_by_sfi(card, sfi):
+    for file in card.files:
+        if file.fid & 0x1F == sfi:
+            return file
+    return None
+
+
+def named_file(card, sfi):
+    """SFI 0 stands for the current file; None where there is none."""
+    return card.current if sfi == 0 else file_by_sfi(card, sfi)
+
+
+def p_is(frame, p1, p2):
+    return frame.p1 == p1 and frame.p2 == p2
+
+
+def select(card, area, frame, random):
+    if not p_is(frame, 0x00, 0x00):
+        return refused(0x6A86)
+    if frame.case != 3 or len(frame.data) != 2:
+        return refused(0x6700)
+    fid = frame.data[0] << 8 | frame.data[1]
+    if fid == 0x3F00:
+        card.current = None
+        return DONE
+    for file in card.files:
+        if file.fid == fid:
+            card.current = file
+            return DONE
+    return refused(0x6A82)
+
+
+def find_bytes(card, frame, case, right_of, wanted):
+    """The checks that READ BINARY and UPDATE BINARY share.
+
+    `right_of` gives the rights byte that counts and `wanted` how many bytes are read or written (None where the case
+    is wrong, which is refused before it is used). Gives the SW, the file and the offset.
+    """
+    if frame.p1 & 0x80 == 0:
+        sfi, offset = 0, frame.p1 << 8 | frame.p2
+    elif 0x81 <= frame.p1 <= 0x9E:
+        sfi, offset = frame.p1 & 0x1F, frame.p2
+    else:
+        return 0x6A86, None, 0
+    if frame.case != case:
+        return 0x6700, None, 0
+    file = named_file(card, sfi)
+    if file is None:
+        return 0x6A82, None, 0
+    if file.kind != BINARY:
+        return 0x6981, None, 0
+    if not is_allowed(card, right_of(file)):
+        return 0x6982, None, 0
+    if offset >= file.size:
+        return 0x6A84, None, 0
+    if offset + wanted > file.size:
+        return 0x6700, None, 0
+    return 0x9000, file, offset
+
+
+def read_right(file):
+    return file.read
+
+
+def write_right(file):
+    return file.write
+
+
+def read_binary(card, area, frame, random):
+    sw, file, offset = find_bytes(card, frame, 2, read_right, frame.le)
+    if sw != 0x9000:
+        return refused(sw)
+    card.current = file
+    begin = file.start + offset
+    return bytes(area[begin:begin + frame.le]), 0x9000
+
+
+def update_binary(card, area, frame, random):
+    sw, file, offset = find_bytes(card, frame, 3, write_right, len(frame.data))
+    if sw != 0x9000:
+        return refused(sw)
+    card.current = file
+    begin = file.start + offset
+    area[begin:begin + len(frame.data)] = frame.data
+    return DONE
+
+
+def find_record(card, frame, case, right_of):
+    """The checks that READ RECORD and UPDATE RECORD share, up to the number. Gives the SW and the file."""
+    sfi = frame.p2 >> 3
+    if frame.p1 == 0 or frame.p2 & 0b111 != 0b100 or sfi == 31:
+        return 0x6A86, None
+    if frame.case != case:
+        return 0x6700, None
+    file = named_file(card, sfi)
+    if file is None:
+        return 0x6A82, None
+    if file.kind not in (FIXED, CYCLIC):
+        return 0x6981, None
+    if not is_allowed(card, right_of(file)):
+        return 0x6982, None
+    if frame.p1 > file.records_held():
+        return 0x6A83, None
+    return 0x9000, file
+
+
+def read_record(card, area, frame, random):
+    sw, file = find_record(card, frame, 2, read_right)
+    if sw != 0x9000:
+        return refused(sw)
+    # Here Le 00 is the whole record.
+    if frame.le != 256 and frame.le != file.length:
+        return refused(0x6C00 | file.length)
+    card.current = file
+    begin = file.record_start(frame.p1)
+    return bytes(area[begin:begin + file.length]), 0x9000
+
+
+def update_record(card, area, frame, random):
+    sw, file = find_record(card, frame, 3, write_right)
+    if sw != 0x9000:
+        return refused(sw)
+    if len(frame.data) != file.length:
+        return refused(0x6700)
+    card.current = file
+    begin = file.record_start(frame.p1)
+    area[begin:begin + file.length] = frame.data
+    return DONE
+
+
+def append_record(card, area, frame, random):
+    sfi = frame.p2 >> 3
+    if frame.p1 != 0 or frame.p2 & 0b111 != 0 or sfi == 31:
+        return refused(0x6A86)
+    if frame.case != 3:
+        return refused(0x6700)
+    file = named_file(card, sfi)
+    if file is None:
+        return refused(0x6A82)
+    if file.kind != CYCLIC:
+        return refused(0x6981)
+    if not is_allowed(card, file.write):
+        return refused(0x6982)
+    if len(frame.data) != file.length:
+        return refused(0x6700)
+    # The new record is number 1; in a full file the oldest goes.
+    file.newest = 0 if file.records == 0 else (file.newest + 1) % file.count
+    file.records = min(file.records + 1, file.count)
+    begin = file.record_start(1)
+    area[begin:begin + file.length] = frame.data
+    card.current = file
+    return DONE
+
+
+def tries_answer(tries):
+    """63Cx, x the smaller of tries left and 15."""
+    return refused(0x63C0 | min(tries, 15))
+
+
+def compare(credential, shown, expected):
+    """A presentation: it is right when the comparison agrees in length and bytes."""
+    if shown == expected:
+        credential.tries = credential.limit
+        credential.held = True
+        return DONE
+    credential.tries -= 1
+    credential.held = False
+    return tries_answer(credential.tries)
+
+
+def pin_named(card, p2):
+    return card.admin if p2 == 0x00 else card.user
+
+
+def verify(card, area, frame, random):
+    if frame.p1 != 0x00 or frame.p2 not in (0x00, 0x01):
+        return refused(0x6A86)
+    if frame.case != 1 and not (frame.case == 3 and 0x06 <= len(frame.data) <= 0x10):
+        return refused(0x6700)
+    pin = pin_named(card, frame.p2)
+    if frame.case == 1:
+        # A query is no presentation.
+        if pin.held:
+            return DONE
+        return refused(0x6983) if pin.tries == 0 else tries_answer(pin.tries)
+    if pin.tries == 0:
+        return refused(0x6983)
+    if not are_digits(frame.data):
+        return refused(0x6A80)
+    return compare(pin, frame.data, pin.value)
+
+
+def external_authenticate(card, area, frame, random):
+    if not p_is(frame, 0x00, 0x00):
+        return refused(0x6A86)
+    if frame.case != 3 or len(frame.data) != 0x10:
+        return refused(0x6700)
+    if card.device.tries == 0:
+        return refused(0x6983)
+    if card.challenge == NO_CHALLENGE:
+        return refused(0x6984)
+    expected = encrypt(card.device.value, card.challenge.ljust(16, b"\x00"))
+    return compare(card.device, frame.data, expected)
+
+
+def change_pin(card, area, frame, random):
+    if frame.p1 != 0x01 or frame.p2 not in (0x00, 0x01):
+        return refused(0x6A86)
+    if frame.case != 3 or not 0x06 <= len(frame.data) <= 0x10:
+        return refused(0x6700)
+    pin = pin_named(card, frame.p2)
+    if not pin.held:
+        return refused(0x6982)
+    if not are_digits(frame.data):
+        return refused(0x6A80)
+    pin.value = frame.data
+    return DONE
+
+
+def reload_pin(card, area, frame, random):
+    if not p_is(frame, 0x02, 0x01):
+        return refused(0x6A86)
+    if frame.case != 3 or not 0x06 <= len(frame.data) <= 0x10:
+        return refused(0x6700)
+    if not card.admin.held:
+        return refused(0x6982)
+    if not are_digits(frame.data):
+        return refused(0x6A80)
+    card.user.value = frame.data
+    card.user.tries = card.user.limit
+    card.user.held = False
+    return DONE
+
+
+def create_file(card, area, frame, random):
+    fid = frame.p1 << 8 | frame.p2
+    sfi = fid & 0x1F
+    if not 1 <= sfi <= 30:
+        return refused(0x6A86)
+    if frame.case != 3 or len(frame.data) != 0x05:
+        return refused(0x6700)
+    if not card.device.held:
+        return refused(0x6982)
+
+    kind, first, second, read, write = frame.data
+    if kind == BINARY:
+        size, count, length = first << 8 | second, 0, 0
+    else:
+        size, count, length = 0, first, second
+    if not is_file_shape(kind, size, count, length) or is_bad_rights_byte(read) or is_bad_rights_byte(write):
+        return refused(0x6A80)
+    if file_by_sfi(card, sfi) is not None:
+        return refused(0x6986)
+    start = card.files[-1].start + card.files[-1].extent if card.files else 0
+    file = File(fid, kind, size, count, length, read, write, start)
+    if len(card.files) >= MOST_FILES or start + file.extent > AREA_SIZE:
+        return refused(0x6A84)
+
+    area[start:start + file.extent] = bytes(file.extent)
+    card.files.append(file)
+    card.current = file
+    return DONE
+
+
+def get_challenge(card, area, frame, random):
+    if not p_is(frame, 0x00, 0x00):
+        return refused(0x6A86)
+    if frame.case != 2 or frame.le not in (0x04, 0x08, 0x10):
+        return refused(0x6700)
+    card.challenge = random[:frame.le]
+    return card.challenge, 0x9000
+
+
+# The list: twelve rows of CLA, INS, name and rule.
+LIST = (
+    (0x00, 0xA4, "SELECT", select),
+    (0x00, 0xB0, "READ BINARY", read_binary),
+    (0x00, 0xD6, "UPDATE BINARY", update_binary),
+    (0x00, 0xB2, "READ RECORD", read_record),
+    (0x00, 0xDC, "UPDATE RECORD", update_record),
+    (0x00, 0xE2, "APPEND RECORD", append_record),
+    (0x00, 0x20, "VERIFY", verify),
+    (0x00, 0x82, "EXTERNAL AUTHENTICATE", external_authenticate),
+    (0x00, 0x24, "CHANGE PIN", change_pin),
+    (0x00, 0x2C, "RELOAD PIN", reload_pin),
+    (0x80, 0xE0, "CREATE FILE", create_file),
+    (0x00, 0x84, "GET CHALLENGE", get_challenge),
+)
+ROWS = {(cla, ins): rule for cla, ins, _, rule in LIST}

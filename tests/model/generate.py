@@ -1,0 +1,1003 @@
+"""Long random scripts that reach deep into the card.
+
+    python3 tests/model/generate.py SEED LINES             writes a script
+    python3 tests/model/generate.py --report SEED LINES    counts what such a script reaches
+
+The generator runs every line that it writes on its own copy of the model. So it knows the right PINs, the challenge
+that stands, the files, their lengths and what they hold, and can aim at both sides of an edge. The script depends on
+the seed and the number of lines only.
+"""
+
+import sys
+from collections import Counter, defaultdict
+from random import Random
+
+import card as cards
+import script
+
+INS = {name: (cla, ins) for cla, ins, name, _ in cards.LIST}
+DIGITS = b"0123456789"
+ROOT = 0x3F00
+
+GOOD_RIGHTS = ((0x00, 44), (0x01, 11), (0x40, 11), (0x80, 11), (0x41, 4), (0x81, 4), (0xC0, 4), (0xC1, 4), (0x0F, 7))
+BAD_RIGHTS = (0x02, 0x04, 0x08, 0x10, 0x20, 0x0E, 0x0D, 0x1F, 0x4F, 0x8F, 0x03, 0x42, 0x82, 0xC2, 0xFE, 0xFF)
+BAD_TYPES = (0x00, 0x08, 0x27, 0x29, 0x2B, 0x2C, 0x2D, 0x2F, 0x38, 0x6A, 0xAE, 0xFF)
+NOT_DIGITS = (0x00, 0x2F, 0x3A, 0x20, 0x41, 0xB0, 0xB9, 0xFF, 0x0D)
+
+
+class Dice:
+    """All chance comes from here. Only Random.random is used: its sequence for a seed is promised not to change."""
+
+    def __init__(self, seed):
+        self.roll = Random(seed).random
+
+    def below(self, bound):
+        return int(self.roll() * bound)
+
+    def between(self, low, high):
+        """Both ends included."""
+        return low + int(self.roll() * (high - low + 1))
+
+    def chance(self, probability):
+        return self.roll() < probability
+
+    def pick(self, choices):
+        return choices[int(self.roll() * len(choices))]
+
+    def weighted(self, pairs):
+        """One of the first parts of the pairs, by the weights that are their second parts."""
+        point = self.roll() * sum(weight for _, weight in pairs)
+        for choice, weight in pairs:
+            point -= weight
+            if point < 0:
+                return choice
+        return pairs[-1][0]
+
+    def bytes(self, length):
+        roll = self.roll
+        return bytes([int(roll() * 256) for _ in range(length)])
+
+    def digits(self, length):
+        return bytes([self.pick(DIGITS) for _ in range(length)])
+
+
+def case_1(name, p1, p2):
+    return bytes((*INS[name], p1, p2))
+
+
+def case_2(name, p1, p2, le):
+    return bytes((*INS[name], p1, p2, le & 0xFF))
+
+
+def case_3(name, p1, p2, data):
+    """Where the data does not fit a frame, one that is cut short or empty comes out: broken, and meant so."""
+    return bytes((*INS[name], p1, p2, len(data) & 0xFF)) + data
+
+
+def hex_of(data):
+    return data.hex().upper().encode("ascii")
+
+
+class Full(Exception):
+    """As many lines as asked for are written."""
+
+
+class Generator:
+    def __init__(self, seed, most_lines, watch=None):
+        self.dice = Dice(seed)
+        self.most_lines = most_lines
+        self.watch = watch
+        self.program = script.Program()
+        self.lines = []
+        # How often a wrong presentation is left out when few tries are left; each card has its own.
+        self.care = 0.9
+        # PINs and cryptograms that were right once: presenting them again must fail.
+        self.old_pins = []
+        self.old_cryptograms = []
+        self.last_newline = self.dice.chance(0.7)
+
+    @property
+    def card(self):
+        return self.program.card
+
+    # ------------------------------------------------------------------------------------------------------- lines
+
+    def put(self, line):
+        """Writes one line and runs it."""
+        if len(self.lines) >= self.most_lines:
+            raise Full
+        self.lines.append(line)
+        answer = self.program.answer(line)
+        if self.watch is not None:
+            self.watch(self.program, line, answer)
+        return answer
+
+    def send(self, sent, spoil=0.05):
+        """Writes a command, sometimes spoiled, mostly with a good random input."""
+        dice = self.dice
+        if dice.chance(spoil):
+            sent = self.spoiled(sent)
+        if dice.chance(0.985):
+            random = dice.bytes(16)
+        else:
+            random = dice.bytes(dice.pick((0, 1, 4, 8, 15, 17, 32, 255, 300)))
+        sent = sent[:300]
+        if len(sent) + len(random) > 500:
+            random = random[:16]
+        return self.put(b"CMD\t" + hex_of(sent) + b"\t" + hex_of(random))
+
+    def surely(self, sent):
+        """A command that serves a plan and is not spoiled."""
+        return self.put(b"CMD\t" + hex_of(sent) + b"\t" + hex_of(self.dice.bytes(16)))
+
+    def spoiled(self, sent):
+        """One thing wrong with a command that was meant well."""
+        dice = self.dice
+        changed = bytearray(sent)
+        kind = dice.below(14)
+        if kind == 0:
+            changed = changed[:-1]
+        elif kind == 1:
+            changed = changed[:dice.below(len(changed) + 1)]
+        elif kind in (2, 3):
+            # A good case 4 frame where case 3 was meant, a broken one elsewhere.
+            changed.append(dice.pick((0, 1, 4, 16, 255, dice.below(256))))
+        elif kind == 4:
+            changed += dice.bytes(dice.between(2, 5))
+        elif kind == 5 and len(changed) > 4:
+            changed[4] = (changed[4] + dice.pick((1, 255))) & 0xFF
+        elif kind == 6 and len(changed) > 4:
+            # The extended form of the same length.
+            changed[4:5] = bytes((0, 0, changed[4]))
+        elif kind == 7:
+            changed[0] = dice.pick((0x01, 0x04, 0x0C, 0x7F, 0x81, 0x84, 0x90, 0xFF, changed[0] ^ 0x80))
+        elif kind == 8:
+            changed[1] ^= 1 << dice.below(8)
+        elif kind == 9:
+            changed[2] = dice.pick((changed[2] ^ (1 << dice.below(8)), 0xFF, 0x80, 0x9F, 0xA0))
+        elif kind == 10:
+            changed[3] = dice.pick((changed[3] ^ (1 << dice.below(8)), 0xFF, changed[3] | 0xF8))
+        elif kind == 11:
+            changed = changed[:4]
+        elif kind == 12:
+            changed = changed[:4] + bytes((dice.pick((0, 1, 4, 6, 16, 255)),))
+        else:
+            # A frame of case 3 or 4 with other data, whatever was meant.
+            data = dice.bytes(dice.pick((1, 2, 5, 6, 16, 255)))
+            changed = changed[:4] + bytes((len(data),)) + data
+            if dice.chance(0.5):
+                changed.append(dice.below(256))
+        return bytes(changed)
+
+    # -------------------------------------------------------------------------------------------------- credentials
+
+    def pin_of(self, p2):
+        return self.card.admin if p2 == 0 else self.card.user
+
+    def new_pin(self):
+        return self.dice.digits(self.dice.pick((6, 6, 7, 8, 8, 12, 15, 16, 16)))
+
+    def wrong_pin(self, right):
+        """A PIN of digits that is near the right one, or was right once, but is not right."""
+        dice = self.dice
+        for _ in range(20):
+            kind = dice.below(8)
+            shown = bytearray(right)
+            if kind < 3:
+                place = (0, len(shown) - 1, dice.below(len(shown)))[kind]
+                shown[place] = 0x30 + (shown[place] - 0x30 + dice.between(1, 9)) % 10
+            elif kind == 3:
+                shown = shown[:-1]
+            elif kind == 4:
+                shown += dice.digits(1)
+            elif kind == 5 and self.old_pins:
+                shown = dice.pick(self.old_pins)
+            elif kind == 6:
+                shown = dice.pick((self.card.admin.value, self.card.user.value))
+            else:
+                shown = dice.digits(dice.between(6, 16))
+            if 6 <= len(shown) <= 16 and shown != right:
+                return bytes(shown)
+        return bytes(0x39 - byte + 0x30 for byte in right)
+
+    def not_digits(self, pin):
+        """The PIN with one byte that is no digit."""
+        changed = bytearray(pin)
+        changed[self.dice.below(len(changed))] = self.dice.pick(NOT_DIGITS)
+        return bytes(changed)
+
+    def is_careful(self, credential):
+        return credential.tries <= 2 and self.dice.chance(self.care)
+
+    def show_pin(self):
+        dice = self.dice
+        p2 = dice.weighted(((0, 4), (1, 6)))
+        pin = self.pin_of(p2)
+        kind = dice.weighted((("right", 42), ("wrong", 24), ("query", 20), ("digits", 7), ("length", 5), ("p", 2)))
+        if kind == "wrong" and self.is_careful(pin):
+            kind = "right"
+        if kind == "right":
+            self.send(case_3("VERIFY", 0, p2, pin.value))
+        elif kind == "wrong":
+            self.send(case_3("VERIFY", 0, p2, self.wrong_pin(pin.value)))
+            if dice.chance(0.3):
+                self.send(case_1("VERIFY", 0, p2))
+        elif kind == "query":
+            self.send(case_1("VERIFY", 0, p2))
+        elif kind == "digits":
+            self.send(case_3("VERIFY", 0, p2, self.not_digits(pin.value)))
+        elif kind == "length":
+            length = dice.pick((1, 5, 5, 17, 17, 32, 255))
+            self.send(case_3("VERIFY", 0, p2, (pin.value + dice.digits(255))[:length]))
+        else:
+            p1, p2 = dice.pick(((0, 2), (1, 0), (1, 1), (0, 0x81), (0, 0xFF), (2, 1)))
+            self.send(case_3("VERIFY", p1, p2, pin.value) if dice.chance(0.5) else case_1("VERIFY", p1, p2))
+
+    def cryptogram(self, challenge):
+        return cards.encrypt(self.card.device.value, challenge.ljust(16, b"\x00"))
+
+    def wrong_cryptogram(self, challenge):
+        dice = self.dice
+        kind = dice.below(7)
+        shown = bytearray(self.cryptogram(challenge))
+        if kind == 0:
+            shown[dice.pick((0, 15, dice.below(16)))] ^= 1 << dice.below(8)
+        elif kind == 1:
+            shown = bytearray(16)
+        elif kind == 2 and self.old_cryptograms:
+            shown = bytearray(dice.pick(self.old_cryptograms))
+        elif kind == 3:
+            # Filled in another way; for a challenge of 16 bytes this is the right one.
+            shown = bytearray(cards.encrypt(self.card.device.value, challenge.ljust(16, b"\x80")))
+        elif kind == 4:
+            shown = bytearray(cards.encrypt(dice.bytes(16), challenge.ljust(16, b"\x00")))
+        elif kind == 5:
+            shown = bytearray(challenge.ljust(16, b"\x00"))
+        else:
+            shown = bytearray(dice.bytes(16))
+        return bytes(shown)
+
+    def log_in_device(self):
+        """A challenge and, mostly at once, its cryptogram."""
+        dice = self.dice
+        length = dice.pick((4, 8, 16))
+        self.send(case_2("GET CHALLENGE", 0, 0, length), spoil=0.03)
+        challenge = self.card.challenge or dice.bytes(length)
+        if dice.chance(0.2):
+            self.interrupt()
+        if self.card.challenge and dice.chance(0.9):
+            challenge = self.card.challenge
+        kind = dice.weighted((("right", 70), ("wrong", 24), ("length", 3), ("p", 3)))
+        if kind == "wrong" and self.is_careful(self.card.device):
+            kind = "right"
+        if kind == "right":
+            shown = self.cryptogram(challenge)
+            self.send(case_3("EXTERNAL AUTHENTICATE", 0, 0, shown), spoil=0.03)
+            self.old_cryptograms = self.old_cryptograms[-3:] + [shown]
+            if dice.chance(0.1):
+                # The challenge is used up.
+                self.send(case_3("EXTERNAL AUTHENTICATE", 0, 0, shown))
+        elif kind == "wrong":
+            self.send(case_3("EXTERNAL AUTHENTICATE", 0, 0, self.wrong_cryptogram(challenge)))
+            if dice.chance(0.15):
+                # The right one after a wrong one, without a new challenge.
+                self.send(case_3("EXTERNAL AUTHENTICATE", 0, 0, self.cryptogram(challenge)))
+        elif kind == "length":
+            shown = self.cryptogram(challenge) + dice.bytes(16)
+            self.send(case_3("EXTERNAL AUTHENTICATE", 0, 0, shown[:dice.pick((1, 8, 15, 17, 32))]))
+        else:
+            p1, p2 = dice.pick(((0, 1), (1, 0), (0, 0x80)))
+            self.send(case_3("EXTERNAL AUTHENTICATE", p1, p2, self.cryptogram(challenge)))
+
+    def interrupt(self):
+        """Something between a challenge and its use: some of these keep the challenge, most drop it."""
+        dice = self.dice
+        kind = dice.below(12)
+        if kind == 0:
+            self.put(b"RESET")
+        elif kind == 1:
+            self.put(self.bad_line())
+        elif kind == 2:
+            self.put(self.refused_issue())
+        elif kind == 3:
+            # Outcome 3 leaves the challenge as it is.
+            self.put(b"CMD\t0084000008\t" + hex_of(dice.bytes(dice.pick((0, 15, 17)))))
+        elif kind == 4:
+            self.send(dice.bytes(dice.below(4)), spoil=0)
+        elif kind == 5:
+            self.send(case_2("GET CHALLENGE", 0, 0, dice.pick((0, 3, 4, 5, 8, 16))))
+        elif kind in (6, 7):
+            self.send(case_1("VERIFY", 0, dice.below(2)))
+        elif kind == 8:
+            self.send(case_2("GET CHALLENGE", 0, 1, 8))
+        elif kind in (9, 10):
+            self.noise()
+        else:
+            self.use_file()
+
+    def ask_challenge(self):
+        dice = self.dice
+        p2 = 0 if dice.chance(0.9) else dice.pick((1, 0x80))
+        self.send(case_2("GET CHALLENGE", 0, p2, dice.pick((4, 8, 16, 4, 8, 16, 0, 1, 3, 5, 7, 9, 15, 17, 255))))
+
+    def obtain(self, byte):
+        """Presents what a rights byte asks for, as far as tries are left."""
+        card = self.card
+        if byte == cards.NEVER:
+            return
+        if byte & cards.ADMIN_BIT and not card.admin.held and card.admin.tries:
+            self.surely(case_3("VERIFY", 0, 0, card.admin.value))
+        if byte & cards.USER_BIT and not card.user.held and card.user.tries:
+            self.surely(case_3("VERIFY", 0, 1, card.user.value))
+        if byte & cards.DEVICE_BIT and not card.device.held and card.device.tries:
+            self.surely(case_2("GET CHALLENGE", 0, 0, self.dice.pick((4, 8, 16))))
+            self.surely(case_3("EXTERNAL AUTHENTICATE", 0, 0, self.cryptogram(card.challenge)))
+
+    def pin_to_set(self):
+        """What a CHANGE or RELOAD sends: mostly a good PIN."""
+        dice = self.dice
+        kind = dice.weighted((("good", 72), ("digits", 15), ("length", 13)))
+        if kind == "good":
+            return dice.pick((self.card.admin.value, self.card.user.value)) if dice.chance(0.1) else self.new_pin()
+        if kind == "digits":
+            return self.not_digits(self.new_pin())
+        return dice.digits(dice.pick((1, 5, 5, 17, 17, 200)))
+
+    def remember_pin(self, pin):
+        self.old_pins = self.old_pins[-3:] + [pin]
+
+    def change_pin(self):
+        dice = self.dice
+        p2 = dice.below(2)
+        if dice.chance(0.08):
+            self.put(b"RESET")
+        elif dice.chance(0.75):
+            self.obtain(cards.USER_BIT if p2 else cards.ADMIN_BIT)
+        self.remember_pin(self.pin_of(p2).value)
+        p1 = 1 if dice.chance(0.95) else dice.pick((0, 2))
+        self.send(case_3("CHANGE PIN", p1, p2 if dice.chance(0.97) else 2, self.pin_to_set()))
+        if dice.chance(0.4):
+            self.send(case_1("VERIFY", 0, p2))
+
+    def reload_pin(self):
+        dice = self.dice
+        if dice.chance(0.08):
+            self.put(b"RESET")
+        elif dice.chance(0.75):
+            self.obtain(cards.ADMIN_BIT)
+        if dice.chance(0.3):
+            # So that the user right is there to be dropped.
+            self.obtain(cards.USER_BIT)
+        self.remember_pin(self.card.user.value)
+        p1, p2 = (2, 1) if dice.chance(0.95) else dice.pick(((2, 0), (1, 2), (0, 1), (2, 0x81)))
+        self.send(case_3("RELOAD PIN", p1, p2, self.pin_to_set()))
+        if dice.chance(0.5):
+            self.send(case_1("VERIFY", 0, 1))
+
+    def use_up_tries(self):
+        """Wrong presentations in a row, at times to the last try and past it, and then the right one."""
+        dice = self.dice
+        target = dice.weighted(((self.card.user, 5), (self.card.admin, 2), (self.card.device, 3)))
+        if target.tries > 20 and dice.chance(0.75):
+            # Worth its many lines only now and then.
+            return
+        # The user PIN can be reloaded, so it may well be used up; the others end what a card can show.
+        to_the_end = 0.6 if target is self.card.user else 1.2 - self.care
+        left = 0 if dice.chance(to_the_end) else dice.pick((1, 1, 2, 14, 15))
+        while target.tries > left:
+            if target is self.card.device:
+                self.surely(case_2("GET CHALLENGE", 0, 0, dice.pick((4, 8, 16))))
+                shown = bytearray(self.cryptogram(self.card.challenge))
+                shown[dice.below(16)] ^= 1 << dice.below(8)
+                self.surely(case_3("EXTERNAL AUTHENTICATE", 0, 0, bytes(shown)))
+            else:
+                p2 = 0 if target is self.card.admin else 1
+                self.surely(case_3("VERIFY", 0, p2, self.wrong_pin(target.value)))
+                if dice.chance(0.25):
+                    self.surely(case_1("VERIFY", 0, p2))
+        if target is self.card.device:
+            if dice.chance(0.8):
+                self.surely(case_2("GET CHALLENGE", 0, 0, dice.pick((4, 8, 16))))
+            challenge = self.card.challenge or bytes(4)
+            self.surely(case_3("EXTERNAL AUTHENTICATE", 0, 0, self.cryptogram(challenge)))
+            return
+        p2 = 0 if target is self.card.admin else 1
+        for sent in (case_1("VERIFY", 0, p2), case_3("VERIFY", 0, p2, self.not_digits(target.value)),
+                     case_3("VERIFY", 0, p2, target.value), case_1("VERIFY", 0, p2)):
+            if dice.chance(0.7):
+                self.surely(sent)
+        if p2 == 1 and target.tries == 0 and dice.chance(0.8):
+            self.obtain(cards.ADMIN_BIT)
+            self.surely(case_3("RELOAD PIN", 2, 1, self.new_pin()))
+            self.surely(case_3("VERIFY", 0, 1, target.value))
+
+    # ---------------------------------------------------------------------------------------------------------- files
+
+    def room(self):
+        return cards.AREA_SIZE - sum(file.extent for file in self.card.files)
+
+    def rights_byte(self):
+        return self.dice.weighted(GOOD_RIGHTS)
+
+    def new_fid(self):
+        """Mostly with an SFI that is not used yet."""
+        dice = self.dice
+        used = [file.sfi for file in self.card.files]
+        free = [sfi for sfi in range(1, 31) if sfi not in used]
+        kind = dice.weighted((("free", 84), ("used", 8), ("same", 3), ("bad", 5)))
+        if kind == "used" and used:
+            sfi = dice.pick(used)
+        elif kind == "same" and used:
+            return dice.pick(self.card.files).fid
+        elif kind == "bad":
+            sfi = dice.pick((0, 31))
+        else:
+            sfi = dice.pick((free[0], free[-1], dice.pick(free)))
+        high = dice.pick((0x00, 0x3F, 0xFF, 0x10, dice.below(256)))
+        return high << 8 | dice.below(8) << 5 | sfi
+
+    def size_bytes(self, kind):
+        """The two bytes of size, or of count and record length, good ones."""
+        dice = self.dice
+        room = max(self.room(), 1)
+        if kind == cards.BINARY:
+            size = dice.weighted((
+                (dice.between(1, 40), 55), (dice.between(41, 300), 20), (dice.between(301, 1200), 8),
+                (dice.pick((1, 16, 255, 256, 257)), 8), (dice.pick((room, room, room + 1, room - 1)), 6),
+                (dice.pick((4096, 4095)), 3)))
+            size = max(1, min(size, 4096))
+            return bytes((size >> 8, size & 0xFF))
+        if dice.chance(0.8):
+            return bytes((dice.pick((2, 2, 3, 4, dice.between(2, 12))), dice.pick((1, 2, 8, 16, dice.between(1, 40)))))
+        if dice.chance(0.3):
+            # As many records as there is room for, or one more than that.
+            length = dice.pick((1, 16, 178, dice.between(1, 178)))
+            return bytes((max(2, min(254, room // length + dice.below(2))), length))
+        return bytes(dice.pick(((254, 1), (254, 16), (2, 178), (23, 178), (24, 178), (254, 178), (254, 2), (100, 3))))
+
+    def bad_contents(self):
+        dice = self.dice
+        kind = dice.pick((cards.BINARY, cards.FIXED, cards.CYCLIC))
+        contents = bytearray(bytes((kind,)) + self.size_bytes(kind) + bytes((self.rights_byte(), self.rights_byte())))
+        wrong = dice.below(4)
+        if wrong == 0:
+            contents[0] = dice.pick(BAD_TYPES)
+        elif wrong == 1:
+            contents[dice.pick((3, 4))] = dice.pick(BAD_RIGHTS)
+        elif kind == cards.BINARY:
+            contents[1:3] = dice.pick((b"\x00\x00", b"\x10\x01", b"\xFF\xFF", b"\x20\x00"))
+        elif wrong == 2:
+            contents[1] = dice.pick((0, 1, 255))
+        else:
+            contents[2] = dice.pick((0, 179, 255))
+        return bytes(contents)
+
+    def create(self, log_in=0.93):
+        dice = self.dice
+        if dice.chance(log_in):
+            self.obtain(cards.DEVICE_BIT)
+        fid = self.new_fid()
+        kind = dice.weighted(((cards.BINARY, 35), (cards.FIXED, 25), (cards.CYCLIC, 40)))
+        if dice.chance(0.86):
+            contents = bytes((kind,)) + self.size_bytes(kind) + bytes((self.rights_byte(), self.rights_byte()))
+        else:
+            contents = self.bad_contents()
+        if dice.chance(0.03):
+            contents = (contents + dice.bytes(4))[:dice.pick((1, 4, 6, 9))]
+        outcome, _, sw = self.send(case_3("CREATE FILE", fid >> 8, fid & 0xFF, contents))
+        if outcome == 0 and sw == 0x9000 and dice.chance(0.5):
+            # The new file is current and holds 00, or nothing.
+            file = self.card.current
+            if file.kind == cards.BINARY:
+                self.send(case_2("READ BINARY", 0, 0, min(file.size, 256)))
+            else:
+                self.send(case_2("READ RECORD", 1, 0x04, 0))
+
+    def fill_directory(self):
+        """Files until the directory or the area is full."""
+        for _ in range(18):
+            self.create()
+            if len(self.card.files) >= cards.MOST_FILES or self.room() == 0:
+                break
+        self.create()
+
+    def select(self):
+        dice = self.dice
+        files = self.card.files
+        kind = dice.weighted((("there", 65), ("root", 12), ("near", 18), ("any", 5)))
+        fid = ROOT
+        if kind == "there" and files:
+            fid = dice.pick(files).fid
+        elif kind == "near":
+            near = dice.pick(files).fid if files else ROOT
+            fid = near ^ dice.pick((0x0100, 0x8000, 0x0020, 0x0080, 0x0001, 0x0010))
+        elif kind == "any":
+            fid = dice.pick((0x0000, 0xFFFF, 0x003F, 0x3F01, dice.below(65536)))
+        data = bytes((fid >> 8, fid & 0xFF))
+        if dice.chance(0.02):
+            data = dice.pick((data[:1], data + b"\x00"))
+        self.send(case_3("SELECT", *((0, 0) if dice.chance(0.97) else (dice.below(5), dice.below(5))), data))
+        if dice.chance(0.4):
+            self.use_current()
+
+    def use_current(self):
+        """A command to the current file, if any, whatever it is: shows which file that is."""
+        dice = self.dice
+        sent = dice.pick((case_2("READ BINARY", 0, 0, 1), case_2("READ RECORD", 1, 0x04, 0),
+                          case_3("APPEND RECORD", 0, 0x00, dice.bytes(1))))
+        file = self.card.current
+        if file is not None and file.kind == cards.BINARY:
+            sent = case_2("READ BINARY", 0, 0, min(file.size, 256))
+        elif file is not None:
+            sent = case_2("READ RECORD", dice.pick((1, max(1, file.records_held()))), 0x04, 0)
+        self.send(sent)
+
+    def a_file(self, kinds):
+        """A file to use, mostly of the kinds asked for, or None."""
+        files = self.card.files
+        current = self.card.current
+        if current is not None and current.kind in kinds and self.dice.chance(0.3):
+            # Used without a SELECT, the current file shows whether the commands before it kept it.
+            return current
+        fitting = [file for file in files if file.kind in kinds]
+        if fitting and self.dice.chance(0.95):
+            return self.dice.pick(fitting)
+        return self.dice.pick(files) if files else None
+
+    def name_file(self, file, offset=0):
+        """The SFI to use, 0 for the current file, which is selected first where it is another one."""
+        dice = self.dice
+        if file is None:
+            return dice.between(0, 30)
+        if dice.chance(0.04):
+            # Whatever is current, or an SFI that may be of no file.
+            return dice.pick((0, dice.between(1, 30)))
+        if offset > 0xFF or dice.chance(0.5):
+            if self.card.current is not file:
+                self.surely(case_3("SELECT", 0, 0, bytes((file.fid >> 8, file.fid & 0xFF))))
+            return 0
+        return file.sfi
+
+    def use_file(self):
+        self.dice.weighted((
+            (self.read_binary, 20), (self.update_binary, 16), (self.read_record, 26), (self.update_record, 14),
+            (self.append_record, 24)))()
+
+    def binary_p(self, sfi, offset):
+        dice = self.dice
+        if dice.chance(0.02):
+            return dice.pick((0x80, 0x9F, 0xA0, 0xC1, 0xFF)), offset & 0xFF
+        if sfi == 0:
+            return (offset >> 8) & 0x7F, offset & 0xFF
+        return 0x80 | sfi, offset & 0xFF
+
+    def span(self, size):
+        """Offset and length in a file of this size, often at an edge."""
+        dice = self.dice
+        kind = dice.below(20)
+        if kind < 9:
+            offset = dice.below(size)
+            return offset, dice.between(1, min(256, size - offset))
+        if kind < 14:
+            offset = dice.pick((0, size - 1, max(0, size - 255), max(0, size - 256), dice.below(size)))
+            return offset, min(256, size - offset)
+        if kind < 16:
+            offset = dice.pick((size - 1, max(0, size - 2), max(0, size - 255), dice.below(size)))
+            return offset, min(256, size - offset + 1)
+        if kind < 18:
+            return dice.pick((size, size, size + 1, size + 255, 0x7FFF, 255, 256)), dice.pick((1, 2, 256))
+        return dice.below(size), dice.pick((1, 255, 256, size & 0xFF or 256))
+
+    def read_binary(self):
+        file = self.a_file((cards.BINARY,))
+        if file is not None and self.dice.chance(0.7):
+            self.obtain(file.read)
+        offset, length = self.span(file.extent if file else 16)
+        sfi = self.name_file(file, offset)
+        self.send(case_2("READ BINARY", *self.binary_p(sfi, offset), length))
+
+    def update_binary(self):
+        file = self.a_file((cards.BINARY,))
+        if file is not None and self.dice.chance(0.7):
+            self.obtain(file.write)
+        offset, length = self.span(file.extent if file else 16)
+        sfi = self.name_file(file, offset)
+        p1, p2 = self.binary_p(sfi, offset)
+        length = min(length, 255)
+        self.send(case_3("UPDATE BINARY", p1, p2, self.dice.bytes(length)))
+        if self.dice.chance(0.4):
+            self.send(case_2("READ BINARY", p1, p2, length))
+
+    def record_number(self, file):
+        dice = self.dice
+        held = file.records_held() if file.kind != cards.BINARY else 1
+        number = dice.weighted((
+            (dice.between(1, max(held, 1)), 50), (1, 12), (held, 14), (held + 1, 9), (file.count, 5),
+            (file.count + 1, 3), (255, 2), (0, 3)))
+        return min(number, 255)
+
+    def record_p2(self, sfi, low):
+        if self.dice.chance(0.02):
+            return self.dice.pick((0xF8 | low, sfi << 3 | self.dice.below(8), 0))
+        return sfi << 3 | low
+
+    def read_record(self):
+        dice = self.dice
+        file = self.a_file((cards.FIXED, cards.CYCLIC))
+        if file is None:
+            self.send(case_2("READ RECORD", 1, self.record_p2(dice.below(31), 4), 0))
+            return
+        if dice.chance(0.7):
+            self.obtain(file.read)
+        number = self.record_number(file)
+        length = file.length or 1
+        le = dice.weighted(((0, 40), (length, 45), (length + 1, 5), (length - 1, 4), (255, 2), (dice.below(256), 4)))
+        self.send(case_2("READ RECORD", number, self.record_p2(self.name_file(file), 4), le))
+
+    def record_data(self, file):
+        length = file.length or 1
+        return self.dice.bytes(self.dice.weighted(((length, 90), (length + 1, 4), (max(1, length - 1), 4), (1, 2))))
+
+    def update_record(self):
+        dice = self.dice
+        file = self.a_file((cards.FIXED, cards.CYCLIC))
+        if file is None:
+            self.send(case_3("UPDATE RECORD", 1, self.record_p2(dice.below(31), 4), b"\x01"))
+            return
+        if dice.chance(0.7):
+            self.obtain(file.write)
+        number = self.record_number(file)
+        p2 = self.record_p2(self.name_file(file), 4)
+        self.send(case_3("UPDATE RECORD", number, p2, self.record_data(file)))
+        if dice.chance(0.4):
+            self.send(case_2("READ RECORD", number, p2, 0))
+
+    def append_record(self):
+        dice = self.dice
+        file = self.a_file((cards.CYCLIC,))
+        if file is None:
+            self.send(case_3("APPEND RECORD", 0, self.record_p2(dice.below(31), 0), b"\x01"))
+            return
+        if dice.chance(0.7):
+            self.obtain(file.write)
+        p1 = 0 if dice.chance(0.97) else dice.pick((1, 255))
+        self.send(case_3("APPEND RECORD", p1, self.record_p2(self.name_file(file), 0), self.record_data(file)))
+
+    def fill_cyclic(self):
+        """Appends past the count, then every number from newest to oldest and one more."""
+        dice = self.dice
+        small = [file for file in self.card.files
+                 if file.kind == cards.CYCLIC and (file.count <= 12 or dice.chance(0.05))]
+        if not small:
+            return
+        file = dice.pick(small)
+        self.obtain(file.write)
+        if not cards.is_allowed(self.card, file.write):
+            return
+        for _ in range(file.count - file.records + dice.between(0, 3)):
+            self.send(case_3("APPEND RECORD", 0, file.sfi << 3, dice.bytes(file.length)), spoil=0.01)
+        self.read_records(file)
+
+    def read_records(self, file):
+        self.obtain(file.read)
+        if cards.is_allowed(self.card, file.read):
+            for number in range(1, min(file.records_held() + 1, 255) + 1):
+                self.send(case_2("READ RECORD", number, file.sfi << 3 | 4, 0), spoil=0.005)
+
+    def read_all(self):
+        """The whole card, as far as it may be read: what an earlier command damaged shows here."""
+        for file in list(self.card.files):
+            if file.kind == cards.BINARY:
+                self.obtain(file.read)
+                if cards.is_allowed(self.card, file.read):
+                    self.surely(case_3("SELECT", 0, 0, bytes((file.fid >> 8, file.fid & 0xFF))))
+                    for offset in range(0, file.size, 256):
+                        le = min(256, file.size - offset)
+                        self.send(case_2("READ BINARY", offset >> 8, offset & 0xFF, le), spoil=0.005)
+            elif file.count <= 30 or self.dice.chance(0.1):
+                self.read_records(file)
+
+    # ---------------------------------------------------------------------------------------------------------- noise
+
+    def noise(self):
+        """Commands that no one means: short frames, frames of all lengths, other classes and instructions."""
+        dice = self.dice
+        kind = dice.below(8)
+        if kind == 0:
+            sent = dice.bytes(dice.below(4))
+        elif kind == 1:
+            sent = bytes((dice.pick((0, 0x80)),)) + dice.bytes(dice.between(3, 9))
+        elif kind == 2:
+            # Any length, with an Lc near the one that would fit.
+            length = dice.between(6, 262)
+            fit = length - dice.pick((4, 5, 5, 6, 6, 7))
+            cla, ins = dice.pick(tuple(INS.values()))
+            sent = bytes((cla, ins, 0, 0, fit & 0xFF)) + dice.bytes(length - 5)
+        elif kind == 3:
+            sent = bytes((dice.below(256), dice.below(256), dice.below(3), dice.below(3)))
+        elif kind == 4:
+            # The right instruction in the wrong one of the two classes, or in another.
+            cla, ins = dice.pick(tuple(INS.values()))
+            sent = bytes((dice.pick((cla ^ 0x80, cla ^ 0x80, 0x01, 0x90, 0xFF)), ins, 0, 0, 4))
+        elif kind == 5:
+            sent = bytes((dice.pick((0, 0x80)), dice.pick((0xC0, 0xCA, 0xD0, 0xE4, 0x22, 0x88, 0x86, 0xFF)), 0, 0))
+        elif kind == 6:
+            cla, ins = dice.pick(tuple(INS.values()))
+            sent = bytes((cla, ins)) + dice.bytes(dice.between(2, 3))
+        else:
+            # Extended forms.
+            cla, ins = dice.pick(tuple(INS.values()))
+            sent = bytes((cla, ins, 0, 0, 0)) + dice.bytes(dice.between(1, 6))
+        self.send(sent, spoil=0)
+
+    def refused_issue(self):
+        """A line that parses and that the card refuses with 5."""
+        dice = self.dice
+        fields = [dice.bytes(16), 3, self.new_pin(), 3, self.new_pin(), 3]
+        kind = dice.below(5)
+        place = dice.pick((2, 4))
+        if kind == 0:
+            fields[0] = dice.bytes(dice.pick((0, 1, 15, 17, 32, 299, 300)))
+        elif kind in (1, 2):
+            fields[dice.pick((1, 3, 5))] = dice.pick((0, 129, 255, 256, 257, 384, 65535))
+        elif kind == 3:
+            fields[place] = dice.digits(dice.pick((0, 1, 5, 17, 22, 100)))
+        else:
+            bad = bytearray(fields[place])
+            bad[dice.below(len(bad))] = dice.pick((0x00, 0x0D, 0x20, 0x2F, 0x3A, 0x41, 0x80, 0xB5, 0xFF))
+            fields[place] = bytes(bad)
+        return self.issue_line(fields)
+
+    @staticmethod
+    def issue_line(fields):
+        key, key_limit, admin, admin_limit, user, user_limit = fields
+        return b"ISSUE\t%s\t%d\t%s\t%d\t%s\t%d" % (hex_of(key), key_limit, admin, admin_limit, user, user_limit)
+
+    def bad_line(self):
+        """A line of outcome 9, or one of its good neighbours at an edge of the grammar."""
+        dice = self.dice
+        random = hex_of(dice.bytes(16))
+        good = dice.pick((b"CMD\t00200001\t" + random, b"CMD\t0084000008\t" + random, b"RESET",
+                          b"ISSUE\t%s\t3\t123456\t3\t654321\t3" % random))
+        # The edges of length have a wider share: each is met by one length only.
+        kind = dice.pick((0, 1, 2, 3, 4, 5, 6, 7, 8, 9, 10, 11, 12, 13, 14, 15, 11, 11, 12))
+        if kind == 0:
+            return b""
+        if kind == 1:
+            return good + b"\r"
+        if kind == 2:
+            return good + b"\t"
+        if kind == 3:
+            return b"\t" + good
+        if kind == 4:
+            return dice.pick((good.lower(), b"CMD\t00200001\t" + random[:-1] + b"a", b"CMD\t0020000a\t" + random))
+        if kind == 5:
+            return dice.pick((b"CMD\t0020000\t" + random, b"CMD\t00200001\t" + random[:-1], b"CMD\t0\t" + random))
+        if kind == 6:
+            return dice.pick((b"CMD\t00 200001\t" + random, b"CMD\t0G200001\t" + random, b"CMD\t0x200001\t" + random,
+                              b"CMD\t00200001\x00\t" + random, b"CMD\t\t" + random, b"CMD\t\t", b"CMD\t00200001\t",
+                              b"CMD\t-\t" + random))
+        if kind == 7:
+            return dice.pick((b"CMD\t00200001", b"CMD", b"CMD\t00200001\t%s\t%s" % (random, random), b"RESET\t",
+                              b"ISSUE\t%s\t3\t123456\t3\t654321" % random, b"ISSUE",
+                              b"ISSUE\t%s\t3\t123456\t3\t654321\t3\t" % random))
+        if kind == 8:
+            return dice.pick((b"RESET ", b" RESET", b"Reset", b"RESE", b"RESETS", b"CMDS\t00200001\t" + random,
+                              b"CM\t00200001\t" + random, b"#", b"ISSUES", b"\x00", b"\xff\xfe", b"\r", b"-", b"\t\t"))
+        if kind in (9, 10):
+            # A limit that is no number of the grammar; 0 and 65535 are numbers, and refused with 5.
+            limits = [b"3", b"3", b"3"]
+            limits[dice.below(3)] = dice.pick((b"", b"00", b"01", b"003", b"65536", b"99999", b"100000", b"+3", b"-1",
+                                               b"3 ", b" 3", b"3.0", b"0x3", b"A", b"0", b"65535", b"129", b"4294967299",
+                                               b"18446744073709551619"))
+            return b"ISSUE\t%s\t%s\t123456\t%s\t654321\t%s" % (random, *limits)
+        if kind == 11:
+            # Lines of 1,024 and 1,025 bytes that parse but for their length.
+            start = b"ISSUE\t" + random + b"\t3\t"
+            end = b"\t3\t654321\t3"
+            length = dice.pick((1023, 1024, 1024, 1025, 1025, 1026, 2048, 5000))
+            return start + dice.digits(length - len(start) - len(end)) + end
+        if kind == 12:
+            # 300 and 301 bytes of command, random or key.
+            many = dice.pick((299, 300, 300, 301, 301, 302))
+            return dice.pick((b"CMD\t%s\t%s" % (hex_of(dice.bytes(many)), random),
+                              b"CMD\t00200001\t%s" % hex_of(dice.bytes(many)),
+                              b"ISSUE\t%s\t3\t123456\t3\t654321\t3" % hex_of(dice.bytes(many))))
+        if kind == 13:
+            # The longest lines of the grammar's CMD, and longer ones: 300 bytes of command and some of random.
+            return b"CMD\t%s\t%s" % (hex_of(dice.bytes(300)), hex_of(dice.bytes(dice.pick((208, 209, 210, 300)))))
+        if kind == 14:
+            return dice.bytes(dice.between(1, 40)).replace(b"\n", b"\t")
+        # Fields in another order, and keys or PINs that are lower-case hex or empty.
+        return dice.pick((b"ISSUE\t%s\t3\t123456\t3\t654321\t3" % random.lower(), b"ISSUE\t\t3\t\t3\t\t3",
+                          b"ISSUE\t3\t%s\t123456\t3\t654321\t3" % random, b"ISSUE\t%s\t123456\t3\t654321\t3\t3" % random,
+                          b"CMD\t%s\t00200001" % random))
+
+    # ---------------------------------------------------------------------------------------------------------- cards
+
+    def issue_good(self):
+        """A new card. Its limits set how fragile it is, and so how many lines it is worth; gives that number."""
+        dice = self.dice
+        style = dice.weighted((("deep", 5), ("mixed", 3), ("fragile", 4)))
+        if style == "deep":
+            limits = [dice.pick((5, 10, 14, 15, 16, 17, 20, 127, 128)) for _ in range(3)]
+            self.care, lines = 0.97, dice.pick((300, 500, 800, 1500))
+        elif style == "mixed":
+            limits = [dice.pick((1, 2, 3, 5, 10, 16, 17, 128)) for _ in range(3)]
+            self.care, lines = 0.85, dice.pick((100, 200, 400))
+        else:
+            limits = [dice.pick((1, 1, 2, 3)) for _ in range(3)]
+            self.care, lines = 0.3, dice.pick((20, 40, 80))
+        key = bytes(range(16)) if dice.chance(0.1) else dice.bytes(16)
+        admin = self.new_pin()
+        user = admin if dice.chance(0.05) else self.new_pin()
+        if self.card is not None:
+            self.old_pins = [self.card.admin.value, self.card.user.value]
+        self.put(self.issue_line([key, limits[0], admin, limits[1], user, limits[2]]))
+        return lines
+
+    def before_a_card(self):
+        """Lines before the first good ISSUE."""
+        dice = self.dice
+        for _ in range(dice.pick((0, 0, 1, 4))):
+            self.put(dice.pick((b"RESET", b"CMD\t00200001\t" + hex_of(dice.bytes(16)), b"CMD\t\t", b"",
+                                self.refused_issue())))
+
+    def use_card(self, lines):
+        """About so many lines with one card."""
+        dice = self.dice
+        end = len(self.lines) + lines
+        if dice.chance(0.4):
+            # A first file without the device right.
+            self.create(log_in=0)
+        start = dice.weighted(((0, 2), (3, 4), (7, 4), (18, 2)))
+        for _ in range(start):
+            self.create()
+        while len(self.lines) < end:
+            dice.weighted((
+                (self.use_file, 420), (self.show_pin, 130), (self.log_in_device, 55), (self.create, 60),
+                (self.select, 55), (self.change_pin, 28), (self.reload_pin, 26), (self.noise, 26),
+                (self.ask_challenge, 14), (self.fill_cyclic, 11), (self.use_up_tries, 14), (self.read_all, 2),
+                (self.fill_directory, 2), (self.other_line, 60), (self.restart, 14), (self.use_current, 20)))()
+        self.read_all()
+
+    def other_line(self):
+        self.put(self.bad_line() if self.dice.chance(0.7) else self.refused_issue())
+
+    def restart(self):
+        self.put(b"RESET")
+        if self.dice.chance(0.4):
+            self.use_current()
+
+    def write(self):
+        try:
+            self.before_a_card()
+            while True:
+                self.use_card(self.issue_good())
+        except Full:
+            return self.lines
+
+
+def script_of(seed, most_lines):
+    """The script as bytes: so many lines, the last one with or without a newline."""
+    generator = Generator(seed, most_lines)
+    text = b"\n".join(generator.write())
+    # An empty last line without a newline would be no line.
+    return text + b"\n" if generator.last_newline or text.endswith(b"\n") or not text else text
+
+
+# ---------------------------------------------------------------------------------------------------------------------
+# The report
+# ---------------------------------------------------------------------------------------------------------------------
+
+FILE_COMMANDS = ("READ BINARY", "UPDATE BINARY", "READ RECORD", "UPDATE RECORD", "APPEND RECORD")
+COUNTS = tuple("63C%X" % left for left in range(16))
+
+# What each command can answer. "case" and "length" are the two places where 6700 stands in a command's checks.
+EXPECTED = {
+    "SELECT": ("9000", "6A86", "6700", "6A82"),
+    "READ BINARY": ("9000 current", "9000 SFI", "6A86", "6700 case", "6A82", "6981", "6982", "6A84", "6700 length"),
+    "UPDATE BINARY": ("9000 current", "9000 SFI", "6A86", "6700 case", "6A82", "6981", "6982", "6A84", "6700 length"),
+    "READ RECORD": ("9000 2A current", "9000 2A SFI", "9000 2E current", "9000 2E SFI", "6A86", "6700 case", "6A82",
+                    "6981", "6982", "6A83", "6Cxx"),
+    "UPDATE RECORD": ("9000 2A current", "9000 2A SFI", "9000 2E current", "9000 2E SFI", "6A86", "6700 case", "6A82",
+                      "6981", "6982", "6A83", "6700 length"),
+    "APPEND RECORD": ("9000 current", "9000 SFI", "9000 full", "6A86", "6700 case", "6A82", "6981", "6982",
+                      "6700 length"),
+    "VERIFY": ("9000", "6A86", "6700", "6983", "6A80") + COUNTS,
+    "VERIFY query": ("9000", "6A86", "6983") + COUNTS[1:],
+    "EXTERNAL AUTHENTICATE": ("9000", "6A86", "6700", "6983", "6984") + COUNTS,
+    "CHANGE PIN": ("9000", "6A86", "6700", "6982", "6A80"),
+    "RELOAD PIN": ("9000", "6A86", "6700", "6982", "6A80"),
+    "CREATE FILE": ("9000 28", "9000 2A", "9000 2E", "6A86", "6700", "6982", "6A80", "6986", "6A84 files", "6A84 room"),
+    "GET CHALLENGE": ("9000", "6A86", "6700"),
+    "(broken frame)": ("6700",),
+    "(other class)": ("6E00",),
+    "(not in the list)": ("6D00",),
+}
+
+
+class Report:
+    """Counts outcomes, and SWs by command and, where one SW has several causes, by cause."""
+
+    def __init__(self):
+        self.outcomes = Counter()
+        self.pairs = defaultdict(Counter)
+        self.full_before = {}
+
+    def watch(self, program, line, answer):
+        outcome, _, sw = answer
+        self.outcomes[line.split(b"\t")[0].decode("latin-1") if outcome != 9 else "(line)", outcome] += 1
+        if sw is not None:
+            name, label = self.labels(program, script.bytes_of(line.split(b"\t")[1]), sw)
+            self.pairs[name][label] += 1
+        if program.card is not None:
+            self.full_before = {file: file.records == file.count for file in program.card.files}
+
+    def labels(self, program, sent, sw):
+        frame = cards.frame_of(sent)
+        label = "%04X" % sw
+        if frame is None:
+            return "(broken frame)", label
+        if sw == 0x6E00:
+            return "(other class)", label
+        name = next((name for cla, ins, name, _ in cards.LIST if (cla, ins) == (sent[0], sent[1])), None)
+        if name is None:
+            return "(not in the list)", label
+        file = program.card.current
+        if name in FILE_COMMANDS:
+            if sw == 0x9000:
+                sfi = frame.p1 & 0x80 if "BINARY" in name else frame.p2 >> 3
+                if "RECORD" in name and name != "APPEND RECORD":
+                    label += " %02X" % file.kind
+                label += " SFI" if sfi else " current"
+                if name == "APPEND RECORD" and self.full_before.get(file):
+                    label = "9000 full"
+            elif sw == 0x6700:
+                label += " length" if frame.case == (2 if name.startswith("READ") else 3) else " case"
+            elif sw & 0xFF00 == 0x6C00:
+                label = "6Cxx"
+        elif name == "VERIFY" and frame.case == 1:
+            name = "VERIFY query"
+        elif name == "CREATE FILE" and sw == 0x9000:
+            label += " %02X" % file.kind
+        elif name == "CREATE FILE" and sw == 0x6A84:
+            label += " files" if len(program.card.files) == cards.MOST_FILES else " room"
+        return name, label
+
+    def show(self, lines):
+        """Prints the counts; gives whether every answer that a command can give was reached."""
+        print("%d lines" % lines)
+        for (first, outcome), count in sorted(self.outcomes.items()):
+            print("  %-8s outcome %d: %d" % (first, outcome, count))
+        missing = []
+        for name, expected in EXPECTED.items():
+            reached = self.pairs[name]
+            print("%-22s %6d" % (name, sum(reached.values())))
+            print("    " + "  ".join("%s: %d" % (label, reached[label]) for label in expected))
+            missing += ["%s %s" % (name, label) for label in expected if not reached[label]]
+            unexpected = sorted(set(reached) - set(expected))
+            missing += ["%s %s is not in the table" % (name, label) for label in unexpected]
+        for entry in missing:
+            print("MISSING: " + entry)
+        return not missing
+
+
+def main(arguments):
+    wants_report = arguments[:1] == ["--report"]
+    if wants_report:
+        arguments = arguments[1:]
+    if len(arguments) != 2 or not all(argument.isdigit() for argument in arguments):
+        print(__doc__.strip(), file=sys.stderr)
+        return 2
+    seed, most_lines = int(arguments[0]), int(arguments[1])
+    if wants_report:
+        report = Report()
+        lines = Generator(seed, most_lines, report.watch).write()
+        return 0 if report.show(len(lines)) else 1
+    sys.stdout.buffer.write(script_of(seed, most_lines))
+    return 0
+
+
+if __name__ == "__main__":
+    sys.exit(main(sys.argv[1:]))
