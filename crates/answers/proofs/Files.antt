@@ -1,0 +1,90 @@
+-- No second answer to any public function of `files`.
+use Prim.Native.Nat.{ℕ}
+use mathlib.Core.Bool.{Bool}
+use mathlib.Core.List.{List}
+use Rattle.files.specs.declared.File.{File}
+use Rattle.files.specs.declared.Directory.{Directory}
+use Rattle.files.specs.declared.FileAnswer.{FileAnswer}
+use Rattle.files.specs.declared.DirectoryAnswer.{DirectoryAnswer}
+use Rattle.files.specs.Words.{Bounded}
+use Rattle.files.specs.Part.{Reading, Writing, FileWriting, DirectoryWriting}
+use Rattle.answers.specs.Files.{Files}
+use Rattle.answers.proofs.Laws.{Same, one-answer, returned, with-lent}
+
+-- the bound beside the equation leaves no choice and takes none
+bounded : {L : Type 0} {most v r r′ : ℕ} {l : L} → Bounded most v r → Bounded most v r′ → Same r r′ l l
+bounded p q = returned (p .is) (q .is)
+
+reading : {served : Bool} {bytes buffer : List ℕ} {r r′ : Bool} {l l′ : List ℕ}
+    → Reading served bytes buffer r l → Reading served bytes buffer r′ l′ → Same r r′ l l′
+reading p q = with-lent (p .answer-is) (q .answer-is) (p .left-is) (q .left-is)
+
+module _ {served : Bool} {xs : List ℕ} {at : ℕ} {ys l l′ : List ℕ} where
+  writing : {r r′ : Bool} → Writing served xs at ys r l → Writing served xs at ys r′ l′ → Same r r′ l l′
+  writing p q = with-lent (p .answer-is) (q .answer-is) (p .left-is) (q .left-is)
+
+  file-writing : {new old : File} {r r′ : FileAnswer}
+      → FileWriting served new old xs at ys r l → FileWriting served new old xs at ys r′ l′ → Same r r′ l l′
+  file-writing p q = with-lent (p .answer-is) (q .answer-is) (p .left-is) (q .left-is)
+
+  directory-writing : {new old : Directory} {r r′ : DirectoryAnswer}
+      → DirectoryWriting served new old xs at ys r l → DirectoryWriting served new old xs at ys r′ l′ → Same r r′ l l′
+  directory-writing p q = with-lent (p .answer-is) (q .answer-is) (p .left-is) (q .left-is)
+
+-- each answer is written out: the value returned, and a place for each parameter, tt where nothing can change
+pub files : Files
+files = record {
+  state-rights-held = λ κs a x y. returned;
+  state-new-file = λ κs a x y. returned;
+  state-blank-file = λ κs a x y. returned;
+  state-with-newest = λ κs a x y. returned;
+  state-no-files = λ κs a x y. returned;
+  tests-both = λ κs a x y. returned;
+  tests-either = λ κs a x y. returned;
+  numbers-wide = λ κs a x y. bounded;
+  numbers-two = λ κs a x y. bounded;
+  numbers-less = λ κs a x y. returned;
+  numbers-fewer = λ κs a x y. returned;
+  numbers-ends-by = λ κs a x y. returned;
+  access-allowed = λ κs a x y. returned;
+  access-good-rights = λ κs a x y. returned;
+  sizes-has-records = λ κs a x y. returned;
+  sizes-count = λ κs a x y. bounded;
+  sizes-record-length = λ κs a x y. bounded;
+  sizes-size = λ κs a x y. bounded;
+  sizes-is-extent = λ κs a x y. returned;
+  sizes-good-shape = λ κs a x y. returned;
+  places-used = λ κs a x y. bounded;
+  places-file = λ κs a x y. returned;
+  places-start = λ κs a x y. bounded;
+  places-end = λ κs a x y. bounded;
+  places-is-place = λ κs a x y. returned;
+  places-extent = λ κs a x y. returned;
+  find-find-fid = λ κs a x y. returned;
+  find-find-sfi = λ κs a x y. returned;
+  find-sfi-unused = λ κs a x y. returned;
+  find-sfis-differ = λ κs a x y. returned;
+  run-show = λ κs a x y p q i. let z = reading p q i in (z .0, (tt, (tt, (tt, (z .1, tt)))));
+  run-store = λ κs a x y p q i. let z = writing p q i in (z .0, (z .1, (tt, (tt, tt))));
+  run-clear = λ κs a x y p q i. (tt, (one-answer p q i, tt));
+  binary-in-binary = λ κs a x y. returned;
+  binary-read = λ κs a x y p q i. let z = reading p q i in (z .0, (tt, (tt, (tt, (tt, (z .1, tt))))));
+  binary-update = λ κs a x y p q i. let z = writing p q i in (z .0, (tt, (z .1, (tt, (tt, tt)))));
+  record-records-held = λ κs a x y. bounded;
+  record-sound-held = λ κs a x y. returned;
+  record-in-records = λ κs a x y. returned;
+  record-read = λ κs a x y p q i. let z = reading p q i in (z .0, (tt, (tt, (tt, (z .1, tt)))));
+  record-update = λ κs a x y p q i. let z = writing p q i in (z .0, (tt, (z .1, (tt, (tt, tt)))));
+  record-append = λ κs a x y p q i. let z = file-writing p q i in (z .0, (tt, (z .1, (tt, tt))));
+  create-good-sfi = λ κs a x y. returned;
+  create-good-contents = λ κs a x y. returned;
+  create-room = λ κs a x y. returned;
+  sound-sound-file = λ κs a x y. returned;
+  sound-is-sound = λ κs a x y. returned;
+  area-read-binary = λ κs a x y p q i. let z = reading p q i in (z .0, (tt, (tt, (tt, (tt, (tt, (z .1, tt)))))));
+  area-update-binary = λ κs a x y p q i. let z = writing p q i in (z .0, (tt, (tt, (z .1, (tt, (tt, tt))))));
+  area-read-record = λ κs a x y p q i. let z = reading p q i in (z .0, (tt, (tt, (tt, (tt, (z .1, tt))))));
+  area-update-record = λ κs a x y p q i. let z = writing p q i in (z .0, (tt, (tt, (z .1, (tt, (tt, tt))))));
+  area-append-record = λ κs a x y p q i. let z = directory-writing p q i in (z .0, (tt, (tt, (z .1, (tt, tt)))));
+  area-create-file = λ κs a x y p q i. let z = directory-writing p q i in (z .0, (tt, (tt, (z .1, tt))));
+}
