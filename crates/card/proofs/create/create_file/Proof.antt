@@ -36,7 +36,7 @@ carried-requires : tie.Need-carried-requires
 carried-requires c κs = tt
 
 same-length : tie.Need-same-length
-same-length c = search needs
+same-length c = c .before .before .before .before .before .area .given
 
 returns : tie.Need-returns
 returns c =

@@ -1,4 +1,5 @@
 -- `card::create::create_sw` meets its contract. Assumes nothing.
+use mathlib.Core.Path.{_∙_}
 use Rattle.rules.specs.Create.{createChecks}
 use borrow.Author.Needs.{needs}
 use Rattle.card.proofs.create.create_sw.Statement.{statement}
@@ -39,7 +40,7 @@ or-else-requires-3 c κs = tt
 
 returns : tie.Need-returns
 unfolding createChecks
-returns c = cc
+returns c = c .or-else3 .ensures ∙ rw (c .before .or-else2 .ensures, c .before .before .or-else .ensures, c .before .before .before .new-file-sw .ensures, c .before .before .before .before .file-given .ensures, c .before .before .before .before .before .unless2 .ensures, c .before .before .before .before .before .before .lc-sw .ensures, c .before .before .before .before .before .before .before .unless .ensures, c .before .before .before .before .before .before .before .before .good-sfi .ensures, c .before .before .before .before .before .before .before .before .before .before .two .ensures .is)
 
 pub create-sw-spec : {M : Type 1} → statement M
 create-sw-spec =

@@ -30,7 +30,7 @@ new-file-requires c κs = tt
 
 returns : tie.Need-returns
 unfolding fileGiven
-returns c = cc
+returns c = rw (c .new-file .ensures, c .before .byte-at5 .ensures, c .before .before .byte-at4 .ensures, c .before .before .before .byte-at3 .ensures, c .before .before .before .before .byte-at2 .ensures, c .before .before .before .before .before .byte-at .ensures, c .before .before .before .before .before .before .two .ensures .is)
 
 pub file-given-spec : {M : Type 1} → statement M
 file-given-spec =

@@ -29,7 +29,7 @@ or-else-requires-3 c κs = tt
 
 returns : tie.Need-returns
 unfolding reloadChecks
-returns c = cc
+returns c = rw (c .or-else3 .ensures, c .before .or-else2 .ensures, c .before .before .or-else .ensures, c .before .before .before .digits-sw .ensures, c .before .before .before .before .held-sw .ensures, c .before .before .before .before .before .unless .ensures, c .before .before .before .before .before .before .pin-given .ensures, c .before .before .before .before .before .before .before .p-sw .ensures)
 
 pub reload-sw-spec : {M : Type 1} → statement M
 reload-sw-spec =

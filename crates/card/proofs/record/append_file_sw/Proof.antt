@@ -27,7 +27,7 @@ or-else-requires-3 : tie.Need-or-else-requires-3
 or-else-requires-3 c κs = tt
 
 returns : tie.Need-returns
-returns c = cc
+returns c = rw (c .or-else3 .ensures, c .before .or-else2 .ensures, c .before .before .or-else .ensures, c .before .before .before .record-lc-sw .ensures, c .before .before .before .before .right-sw .ensures, c .before .before .before .before .before .unless .ensures, c .before .before .before .before .before .before .before .file-sw .ensures, c .before .before .before .before .before .before .before .before .file-of .ensures)
 
 pub append-file-sw-spec : {M : Type 1} → statement M
 append-file-sw-spec =

@@ -9,7 +9,7 @@ unless-requires : tie.Need-unless-requires
 unless-requires c κs = tt
 
 returns : tie.Need-returns
-returns c = cc
+returns c = rw (c .unless .ensures, c .before .record-length .ensures .is)
 
 pub record-lc-sw-spec : {M : Type 1} → statement M
 record-lc-sw-spec = tie.close (tie.spec record-length-requires unless-requires returns)

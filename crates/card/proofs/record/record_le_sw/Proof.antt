@@ -19,7 +19,7 @@ unless-requires : tie.Need-unless-requires
 unless-requires c κs = tt
 
 returns : tie.Need-returns
-returns c = cc
+returns c = rw (c .unless .ensures, c .before .either .ensures, c .before .before .before .before .record-length .ensures .is)
 
 pub record-le-sw-spec : {M : Type 1} → statement M
 record-le-sw-spec =

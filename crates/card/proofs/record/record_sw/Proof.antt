@@ -39,7 +39,7 @@ or-else-requires-4 : tie.Need-or-else-requires-4
 or-else-requires-4 c κs = tt
 
 returns : tie.Need-returns
-returns c = cc
+returns c = rw (c .or-else4 .ensures, c .before .or-else3 .ensures, c .before .before .or-else2 .ensures, c .before .before .before .or-else .ensures, c .before .before .before .before .unless2 .ensures, c .before .before .before .before .before .records-held .ensures .is, c .before .before .before .before .before .before .wide .ensures .is, c .before .before .before .before .before .before .before .right-sw .ensures, c .before .before .before .before .before .before .before .before .unless .ensures, c .before .before .before .before .before .before .before .before .before .has-records .ensures, c .before .before .before .before .before .before .before .before .before .before .file-sw .ensures, c .before .before .before .before .before .before .before .before .before .before .before .file-of .ensures)
 
 pub record-sw-spec : {M : Type 1} → statement M
 record-sw-spec =

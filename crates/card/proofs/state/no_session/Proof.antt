@@ -6,7 +6,7 @@ rights-held-requires : tie.Need-rights-held-requires
 rights-held-requires c κs = tt
 
 returns : tie.Need-returns
-returns c = cc
+returns c = rw (c .rights-held .ensures)
 
 pub no-session-spec : {M : Type 1} → statement M
 no-session-spec = tie.close (tie.spec rights-held-requires returns)

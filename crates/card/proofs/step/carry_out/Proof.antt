@@ -10,15 +10,14 @@ use Rattle.rules.specs.Pins.{verifyEffect}
 use Rattle.rules.specs.State.{logins}
 use Rattle.rules.specs.Step.{checks, effectOf}
 use Rattle.rules.specs.declared.Card.{Card}
-use mathlib.Core.Path.{ap, _∙_}
+use mathlib.Core.Path.{ap, _∙_, refl}
 use denote.Ref.{now}
 -- `card::step::carry_out` meets its contract. Assumes nothing.
-use borrow.Author.Needs.{needs}
 use Rattle.card.proofs.step.carry_out.Statement.{statement}
 use Rattle.card.proofs.step.carry_out.Tie as tie
 
 enum-told : tie.Need-enum-told
-enum-told c = search needs
+enum-told c = c .match .keys1
 
 select-requires : tie.Need-select-requires
 select-requires c κs = tt
@@ -27,7 +26,7 @@ quietly-requires : tie.Need-quietly-requires
 quietly-requires c κs = tt
 
 enum-told-2 : tie.Need-enum-told-2
-enum-told-2 c = search needs
+enum-told-2 c = c .match .keys2
 
 read-binary-requires : tie.Need-read-binary-requires
 unfolding checks readBinaryChecks
@@ -38,7 +37,7 @@ read-binary-requires c κs =
     (s .pre .0, ((s .pre .1 .0 .0, s .pre .1 .0 .2), checked))
 
 enum-told-3 : tie.Need-enum-told-3
-enum-told-3 c = search needs
+enum-told-3 c = c .match .keys3
 
 update-binary-requires : tie.Need-update-binary-requires
 unfolding checks
@@ -49,7 +48,7 @@ update-binary-requires c κs =
     (s .pre .0, checked)
 
 enum-told-4 : tie.Need-enum-told-4
-enum-told-4 c = search needs
+enum-told-4 c = c .match .keys4
 
 read-record-requires : tie.Need-read-record-requires
 unfolding checks readRecordChecks
@@ -60,7 +59,7 @@ read-record-requires c κs =
     (s .pre .0, (s .pre .1 .0 .2, checked))
 
 enum-told-5 : tie.Need-enum-told-5
-enum-told-5 c = search needs
+enum-told-5 c = c .match .keys5
 
 update-record-requires : tie.Need-update-record-requires
 unfolding checks
@@ -71,7 +70,7 @@ update-record-requires c κs =
     (s .pre .0, checked)
 
 enum-told-6 : tie.Need-enum-told-6
-enum-told-6 c = search needs
+enum-told-6 c = c .match .keys6
 
 append-record-requires : tie.Need-append-record-requires
 unfolding checks
@@ -82,19 +81,19 @@ append-record-requires c κs =
     (s .pre .0, checked)
 
 enum-told-7 : tie.Need-enum-told-7
-enum-told-7 c = search needs
+enum-told-7 c = c .match .keys7
 
 verify-requires : tie.Need-verify-requires
 verify-requires c κs = tt
 
 enum-told-8 : tie.Need-enum-told-8
-enum-told-8 c = search needs
+enum-told-8 c = c .match .keys8
 
 authenticate-requires : tie.Need-authenticate-requires
 authenticate-requires c κs = tt
 
 enum-told-9 : tie.Need-enum-told-9
-enum-told-9 c = search needs
+enum-told-9 c = c .match .keys9
 
 change-requires : tie.Need-change-requires
 unfolding checks
@@ -108,7 +107,7 @@ quietly-requires-2 : tie.Need-quietly-requires-2
 quietly-requires-2 c κs = tt
 
 enum-told-10 : tie.Need-enum-told-10
-enum-told-10 c = search needs
+enum-told-10 c = c .match .keys10
 
 reload-requires : tie.Need-reload-requires
 unfolding checks
@@ -122,7 +121,7 @@ quietly-requires-3 : tie.Need-quietly-requires-3
 quietly-requires-3 c κs = tt
 
 enum-told-11 : tie.Need-enum-told-11
-enum-told-11 c = search needs
+enum-told-11 c = c .match .keys11
 
 create-file-requires : tie.Need-create-file-requires
 unfolding checks
@@ -133,7 +132,7 @@ create-file-requires c κs =
     (s .pre .0, checked)
 
 enum-told-12 : tie.Need-enum-told-12
-enum-told-12 c = search needs
+enum-told-12 c = c .match .keys12
 
 get-challenge-requires : tie.Need-get-challenge-requires
 unfolding checks getChallengeChecks
@@ -144,7 +143,7 @@ get-challenge-requires c κs =
     ((s .pre .1 .0 .1, s .pre .1 .0 .2), checked)
 
 enum-told-13 : tie.Need-enum-told-13
-enum-told-13 c = search needs
+enum-told-13 c = c .match .keys13
 
 quietly-requires-4 : tie.Need-quietly-requires-4
 quietly-requires-4 c κs = tt
@@ -156,10 +155,10 @@ returns c =
     rw (c .before .before .enum-told .given .1) (quiet (now (a .random)) (now (a .area)) (now (a .reply)) 0x9000 _ (c .quietly .result) (c .quietly .ensures ∙ ap (λ (x : Card). carried x 0x9000 0 0) (c .before .select .ensures)))
 
 same-length : tie.Need-same-length
-same-length c = search needs
+same-length c = refl
 
 same-length-2 : tie.Need-same-length-2
-same-length-2 c = search needs
+same-length-2 c = c .before .reply .given
 
 returns-2 : tie.Need-returns-2
 unfolding effectOf
@@ -168,7 +167,7 @@ returns-2 c =
     rw (c .before .before .before .before .before .enum-told2 .given .1) (showing (now (a .random)) (now (a .area)) (now (a .reply)) _ _ _ _ (c .before .before .read-binary .result) (c .before .before .read-binary .ensures))
 
 same-length-3 : tie.Need-same-length-3
-same-length-3 c = search needs
+same-length-3 c = c .before .area .given
 
 returns-3 : tie.Need-returns-3
 unfolding effectOf
@@ -177,10 +176,10 @@ returns-3 c =
     rw (c .before .before .before .before .enum-told3 .given .1) (storing (now (a .random)) (now (a .area)) (now (a .reply)) _ _ _ _ (c .before .before .update-binary .result) (c .before .before .update-binary .ensures))
 
 same-length-4 : tie.Need-same-length-4
-same-length-4 c = search needs
+same-length-4 c = refl
 
 same-length-5 : tie.Need-same-length-5
-same-length-5 c = search needs
+same-length-5 c = c .before .reply2 .given
 
 returns-4 : tie.Need-returns-4
 unfolding effectOf
@@ -189,7 +188,7 @@ returns-4 c =
     rw (c .before .before .before .before .before .enum-told4 .given .1) (showing (now (a .random)) (now (a .area)) (now (a .reply)) _ _ _ _ (c .before .before .read-record .result) (c .before .before .read-record .ensures))
 
 same-length-6 : tie.Need-same-length-6
-same-length-6 c = search needs
+same-length-6 c = c .before .area2 .given
 
 returns-5 : tie.Need-returns-5
 unfolding effectOf
@@ -198,7 +197,7 @@ returns-5 c =
     rw (c .before .before .before .before .enum-told5 .given .1) (storing (now (a .random)) (now (a .area)) (now (a .reply)) _ _ _ _ (c .before .before .update-record .result) (c .before .before .update-record .ensures))
 
 same-length-7 : tie.Need-same-length-7
-same-length-7 c = search needs
+same-length-7 c = c .before .area3 .given
 
 returns-6 : tie.Need-returns-6
 unfolding effectOf
@@ -231,7 +230,7 @@ returns-10 c =
     rw (c .before .before .enum-told10 .given .1) (quiet (now (a .random)) (now (a .area)) (now (a .reply)) 0x9000 _ (c .quietly3 .result) (c .quietly3 .ensures ∙ ap (λ (x : Card). carried x 0x9000 0 0) (c .before .reload .ensures)))
 
 same-length-8 : tie.Need-same-length-8
-same-length-8 c = search needs
+same-length-8 c = c .before .area4 .given
 
 returns-11 : tie.Need-returns-11
 unfolding effectOf
@@ -240,7 +239,7 @@ returns-11 c =
     rw (c .before .before .before .before .enum-told11 .given .1) (storing (now (a .random)) (now (a .area)) (now (a .reply)) _ _ _ _ (c .before .before .create-file .result) (c .before .before .create-file .ensures))
 
 same-length-9 : tie.Need-same-length-9
-same-length-9 c = search needs
+same-length-9 c = c .before .reply3 .given
 
 returns-12 : tie.Need-returns-12
 unfolding effectOf

@@ -6,7 +6,6 @@ use Prim.Native.Nat.{ℕ, _≤_, _+_}
 use mathlib.Core.Path.{ap, ap₂, sym, _∙_}
 use denote.Ref.{now}
 -- `card::step::command` meets its contract. Assumes nothing.
-use borrow.Author.Needs.{needs}
 use Rattle.card.proofs.step.command.Statement.{statement}
 use Rattle.card.proofs.step.command.Tie as tie
 
@@ -51,10 +50,10 @@ step-requires c κs =
     (record { is-sound = sym (c .before .before .before .is-sound .ensures) ∙ not-false _ (c .before .before .if4 .left); area-size = c .before .before .before .before .before .if2 .left }, (c .before .before .before .before .if3 .left, c .before .before .before .before .before .before .if1 .left))
 
 same-length : tie.Need-same-length
-same-length c = search needs
+same-length c = c .before .before .before .area .given
 
 same-length-2 : tie.Need-same-length-2
-same-length-2 c = search needs
+same-length-2 c = c .before .reply .given
 
 returns-5 : tie.Need-returns-5
 returns-5 c =

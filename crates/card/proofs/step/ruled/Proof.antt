@@ -8,7 +8,6 @@ use Rattle.card.specs.Head.{commandOf}
 use mathlib.Core.Path.{ap, ap₂, sym, _∙_}
 use denote.Ref.{now}
 -- `card::step::ruled` meets its contract. Assumes nothing.
-use borrow.Author.Needs.{needs}
 use Rattle.card.proofs.step.ruled.Statement.{statement}
 use Rattle.card.proofs.step.ruled.Tie as tie
 
@@ -22,10 +21,10 @@ carry-out-requires c κs =
     (s .pre .0, (s .pre .1, own-passed (a .ins) (a .card) (commandOf (a .h) (now (a .given))) (now (a .random)) (sym (c .before .before .before .sw-of .ensures) ∙ c .before .before .if1 .taken)))
 
 same-length : tie.Need-same-length
-same-length c = search needs
+same-length c = c .before .before .before .area .given
 
 same-length-2 : tie.Need-same-length-2
-same-length-2 c = search needs
+same-length-2 c = c .before .reply .given
 
 returns : tie.Need-returns
 returns c =

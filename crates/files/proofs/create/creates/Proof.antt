@@ -1,4 +1,6 @@
 -- `files::create::creates` meets its contract. Assumes nothing.
+use native.Mathlib.Omega.{arith}
+use mathlib.Core.Path.{_∙_}
 use Rattle.files.specs.Create.{creates}
 use borrow.Author.Needs.{needs}
 use Rattle.files.proofs.create.creates.Statement.{statement}
@@ -14,7 +16,7 @@ size-requires : tie.Need-size-requires
 size-requires c κs = tt
 
 add-to : tie.Need-add-to
-add-to c = search needs
+add-to c = omega (arith, c .size .ensures .low, c .before .end .ensures .low)
 
 sfi-unused-requires : tie.Need-sfi-unused-requires
 sfi-unused-requires c κs = tt
@@ -42,7 +44,7 @@ both-requires-4 c κs = tt
 
 returns : tie.Need-returns
 unfolding creates
-returns c = cc
+returns c = c .both4 .ensures ∙ rw (c .before .before .before .before .good-sfi .ensures, c .before .both3 .ensures, c .before .before .before .good-contents .ensures, c .before .before .both2 .ensures, c .before .before .before .before .before .before .before .sfi-unused .ensures, c .before .before .before .before .before .both .ensures, c .before .before .before .before .before .before .room .ensures, c .before .before .before .before .before .before .before .before .size .ensures .is, c .before .before .before .before .before .before .before .before .before .end .ensures .is)
 
 pub creates-spec : {M : Type 1} → statement M
 creates-spec =

@@ -36,7 +36,7 @@ with-newest-requires c κs = tt
 returns : tie.Need-returns
 unfolding appended
 returns c = let s = c .before .before .before .before .before in
-    cc (count-records (s .args .f) (λ e. omega (arith, s .pre .0)))
+    c .with-newest .ensures ∙ rw (c .before .fewer .ensures, c .before .before .wide2 .ensures .is, c .before .before .before .before .wide .ensures .is, c .before .before .before .next-place .ensures .is, count-records (s .args .f) (λ e. omega (arith, s .pre .0)))
 
 pub appended-spec : {M : Type 1} → statement M
 appended-spec =

@@ -1,4 +1,5 @@
 -- `files::record::appends` meets its contract. Assumes nothing.
+use mathlib.Core.Path.{_∙_}
 use Rattle.files.specs.Record.{appendsRecord}
 use Rattle.files.proofs.record.appends.Statement.{statement}
 use Rattle.files.proofs.record.appends.Tie as tie
@@ -23,7 +24,7 @@ both-requires-3 c κs = tt
 
 returns : tie.Need-returns
 unfolding appendsRecord
-returns c = cc
+returns c = c .both3 .ensures ∙ rw (c .before .before .before .before .before .before .is-extent .ensures, c .before .both2 .ensures, c .before .before .both .ensures, c .before .before .before .sound-held .ensures, c .before .before .before .before .before .record-length .ensures .is)
 
 pub appends-spec : {M : Type 1} → statement M
 appends-spec =

@@ -1,4 +1,5 @@
 -- `files::record::in_records` meets its contract. Assumes nothing.
+use mathlib.Core.Path.{_∙_}
 use Rattle.files.specs.Record.{inRecords}
 use Rattle.files.proofs.record.in_records.Statement.{statement}
 use Rattle.files.proofs.record.in_records.Tie as tie
@@ -23,7 +24,7 @@ both-requires-3 c κs = tt
 
 returns : tie.Need-returns
 unfolding inRecords
-returns c = cc
+returns c = c .both3 .ensures ∙ rw (c .before .before .before .has-records .ensures, c .before .both2 .ensures, c .before .before .sound-held .ensures, c .before .before .before .before .both .ensures, c .before .before .before .before .before .records-held .ensures .is)
 
 pub in-records-spec : {M : Type 1} → statement M
 in-records-spec =

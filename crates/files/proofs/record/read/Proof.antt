@@ -1,5 +1,5 @@
 -- `files::record::read` meets its contract. Assumes nothing.
-use mathlib.Core.Path.{_≡_, refl, sym, ap, _∙_}
+use mathlib.Core.Path.{_≡_, sym, ap₂, _∙_}
 use mathlib.Core.Bool.{true, false}
 use lib.ListN.{length}
 use borrow.Author.Tests.{not-true, not-false}
@@ -52,7 +52,7 @@ returns-2 c = let s = c .before .before .before .before .before .before .before 
     let l = c .before .before .before .before .before .before .record-length .ensures .is in
     let p = start-is (a .f) (a .n) (c .before .before .before .before .place-of .result) (c .before .before .before .before .before .less .result) (c .before .before .before .before .before .before .record-length .result) (c .before .before .before .before .place-of .ensures) (c .before .before .before .before .before .less .ensures) l in
     let k = shows-extent (a .f) (length (a .extent .now)) _ e (recordStart (a .f) (a .n)) (recordLength (a .f)) (length (a .out .now)) (reads-record (a .f) (a .n) (length (a .out .now)) (as-asked (a .f) (length (a .extent .now)) _ e)) in
-    shown-as _ (part (recordStart (a .f) (a .n)) (recordLength (a .f)) (a .extent .now)) (a .out .now) _ _ _ _ (cc (p, l, k, e)) (cc (p, l)) (c .before .before .show .ensures)
+    shown-as _ (part (recordStart (a .f) (a .n)) (recordLength (a .f)) (a .extent .now)) (a .out .now) _ _ _ _ (ap₂ (λ x y. shows (length (a .extent .now)) x y (length (a .out .now))) p l ∙ k ∙ sym e) (ap₂ (λ x y. part x y (a .extent .now)) p l) (c .before .before .show .ensures)
 
 pub read-spec : {M : Type 1} → statement M
 read-spec =

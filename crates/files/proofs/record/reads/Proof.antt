@@ -1,4 +1,5 @@
 -- `files::record::reads` meets its contract. Assumes nothing.
+use mathlib.Core.Path.{_∙_}
 use Rattle.files.specs.Record.{readsRecord}
 use Rattle.files.proofs.record.reads.Statement.{statement}
 use Rattle.files.proofs.record.reads.Tie as tie
@@ -20,7 +21,7 @@ both-requires-2 c κs = tt
 
 returns : tie.Need-returns
 unfolding readsRecord
-returns c = cc
+returns c = c .both2 .ensures ∙ rw (c .before .before .before .before .is-extent .ensures, c .before .both .ensures, c .before .before .before .in-records .ensures, c .before .before .record-length .ensures .is)
 
 pub reads-spec : {M : Type 1} → statement M
 reads-spec =

@@ -1,4 +1,5 @@
 -- `files::record::updates` meets its contract. Assumes nothing.
+use mathlib.Core.Path.{_∙_}
 use Rattle.files.specs.Record.{updatesRecord}
 use Rattle.files.proofs.record.updates.Statement.{statement}
 use Rattle.files.proofs.record.updates.Tie as tie
@@ -20,7 +21,7 @@ both-requires-2 c κs = tt
 
 returns : tie.Need-returns
 unfolding updatesRecord
-returns c = cc
+returns c = c .both2 .ensures ∙ rw (c .before .before .before .before .is-extent .ensures, c .before .both .ensures, c .before .before .before .in-records .ensures, c .before .before .record-length .ensures .is)
 
 pub updates-spec : {M : Type 1} → statement M
 updates-spec =

@@ -1,4 +1,5 @@
 -- `files::sizes::good_shape` meets its contract. Assumes nothing.
+use mathlib.Core.Path.{_∙_}
 use borrow.Author.Tests.{eq-eqb, ne-eqb}
 use Rattle.files.specs.Types.{goodShape}
 use Rattle.files.proofs.sizes.good_shape.Statement.{statement}
@@ -15,7 +16,7 @@ both-requires c κs = tt
 
 returns : tie.Need-returns
 unfolding goodShape
-returns c = rw (eq-eqb _ _ (c .before .if1 .taken)) cc
+returns c = c .both .ensures ∙ rw (eq-eqb _ _ (c .before .if1 .taken), c .before .before .before .before .count .ensures .is)
 
 both-requires-2 : tie.Need-both-requires-2
 both-requires-2 c κs = tt
@@ -34,7 +35,7 @@ both-requires-5 c κs = tt
 
 returns-2 : tie.Need-returns-2
 unfolding goodShape
-returns-2 c = rw (ne-eqb _ _ (c .before .before .before .before .before .if1 .left)) cc
+returns-2 c = c .both5 .ensures ∙ rw (ne-eqb _ _ (c .before .before .before .before .before .if1 .left), c .before .before .before .has-records .ensures, c .before .both4 .ensures, c .before .before .both3 .ensures, c .before .before .before .before .both2 .ensures, c .before .before .before .before .before .before .before .before .count .ensures .is, c .before .before .before .before .before .before .before .record-length .ensures .is)
 
 pub good-shape-spec : {M : Type 1} → statement M
 good-shape-spec =

@@ -1,4 +1,5 @@
 -- `files::sound::sound_file` meets its contract. Assumes nothing.
+use mathlib.Core.Path.{_∙_}
 use Rattle.files.specs.Sound.{soundFile}
 use borrow.Author.Needs.{needs}
 use Rattle.files.proofs.sound.sound_file.Statement.{statement}
@@ -24,7 +25,7 @@ both-requires-2 c κs = tt
 
 returns : tie.Need-returns
 unfolding soundFile
-returns c = cc
+returns c = c .both2 .ensures ∙ rw (c .before .before .before .before .good-sfi .ensures, c .before .both .ensures, c .before .before .before .good-contents .ensures, c .before .before .sound-held .ensures)
 
 pub sound-file-spec : {M : Type 1} → statement M
 sound-file-spec =

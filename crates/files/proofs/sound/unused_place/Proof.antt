@@ -1,4 +1,5 @@
 -- `files::sound::unused_place` meets its contract. Assumes nothing.
+use mathlib.Core.Path.{_∙_}
 use Rattle.files.specs.Sound.{unusedPlace}
 use Rattle.files.proofs.sound.unused_place.Statement.{statement}
 use Rattle.files.proofs.sound.unused_place.Tie as tie
@@ -26,7 +27,7 @@ both-requires-7 c κs = tt
 
 returns : tie.Need-returns
 unfolding unusedPlace
-returns c = cc
+returns c = c .both7 .ensures ∙ rw (c .before .both6 .ensures, c .before .before .before .before .both5 .ensures, c .before .before .before .before .before .both4 .ensures, c .before .before .before .before .before .before .before .before .both3 .ensures, c .before .before .before .before .before .before .before .before .before .both2 .ensures, c .before .before .before .before .before .before .before .before .before .before .before .before .both .ensures)
 
 pub unused-place-spec : {M : Type 1} → statement M
 unused-place-spec =
