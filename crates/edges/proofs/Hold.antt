@@ -1,4 +1,4 @@
--- Every row of the table holds, computed from the rules.
+-- Every row of the table holds, computed from the rules: the one statement of this crate.
 -- Assumes nothing.
 use mathlib.Core.Bool.{true}
 use mathlib.Core.Path.{_≡_, refl}
@@ -27,8 +27,9 @@ use Rattle.rules.specs.Device.{authenticateChecks, getChallengeChecks}
 use Rattle.rules.specs.Create.{fileGiven, createChecks}
 use Rattle.rules.specs.Step.{checks, effectOf, outcome, settled, step}
 use Rattle.rules.specs.Calls.{command, reset, goodOrder, issue}
-use Rattle.edges.specs.Edges.{answered, obeys, holds, allHold, user-limit, edge, line, right-pin, wrong-pin, query, script, files, edges}
+use Rattle.edges.specs.Table.{allHold}
+use Rattle.edges.specs.Edges.{edges}
 
 pub edges-hold : allHold edges ≡ true
-unfolding xPower square squares inverse sbox mixColumn expanded keyExpansion roundKey fullRound lastRound rounds cipher aes128 allBelow part splice over count recordLength size goodShape allowed goodRights used startAt seek findFid findSfi back next recordsHeld placeOf recordStart nextPlace nextStart appended soundHeld goodContents sfiUnused room created soundFile unusedPlace sfisDiffer soundDirectory orElse allOf same goodPin soundPin soundLogin soundChallenge sound caseOf framed rows find listed selectChecks target readBinaryChecks updateBinaryChecks readRecordChecks updateRecordChecks appendChecks compared verifyChecks changeChecks reloadChecks authenticateChecks getChallengeChecks fileGiven createChecks checks effectOf outcome settled step command reset goodOrder issue answered obeys holds allHold user-limit edge line right-pin wrong-pin query script files edges
+unfolding xPower square squares inverse sbox mixColumn expanded keyExpansion roundKey fullRound lastRound rounds cipher aes128 allBelow part splice over count recordLength size goodShape allowed goodRights used startAt seek findFid findSfi back next recordsHeld placeOf recordStart nextPlace nextStart appended soundHeld goodContents sfiUnused room created soundFile unusedPlace sfisDiffer soundDirectory orElse allOf same goodPin soundPin soundLogin soundChallenge sound caseOf framed rows find listed selectChecks target readBinaryChecks updateBinaryChecks readRecordChecks updateRecordChecks appendChecks compared verifyChecks changeChecks reloadChecks authenticateChecks getChallengeChecks fileGiven createChecks checks effectOf outcome settled step command reset goodOrder issue
 edges-hold = refl

@@ -1,0 +1,181 @@
+-- "A state is sound when all this holds": cards with one thing wrong, each refused with 4, beside cards at the edge that are served.
+use Prim.Native.Nat.{ℕ}
+use mathlib.Core.Bool.{true, false}
+use mathlib.Core.List.{List, [], _∷_, _++_}
+use lib.ListN.{replicate}
+use Rattle.files.specs.declared.File.{File}
+use Rattle.files.specs.Part.{zeros}
+use Rattle.files.specs.State.{rightsHeld, blankFile, newFile, withNewest, noFiles, withFile, oneMore}
+use Rattle.rules.specs.declared.Tries.{Tries}
+use Rattle.rules.specs.declared.Pin.{Pin}
+use Rattle.rules.specs.declared.Card.{Card}
+use Rattle.rules.specs.Tries.{full}
+use Rattle.rules.specs.State.{Which, device, admin, user, withKey, withAdmin, withUser, withDirectory, withSession, withLogin, keyOf}
+use Rattle.edges.specs.Table.{hex, random, again, unreset, Edge, called}
+use Rattle.edges.specs.Cards.{holder, filed, add, cabinet}
+use Rattle.edges.specs.Create.{fifteen}
+
+-- a reset is refused with 4, or it is served. A command asks the same, as rows of `Calls` show
+abbrev pub bad : List Card → List Edge
+bad [] = []
+bad (c ∷ cs) = called 258 c [] (unreset ∷ []) ∷ bad cs
+
+abbrev pub good : List Card → List Edge
+good [] = []
+good (c ∷ cs) = called 258 c [] (again ∷ []) ∷ good cs
+
+abbrev pub plain : Card
+plain = filed false false false
+
+abbrev pub tries : ℕ → ℕ → Tries
+tries left limit = record { left = left; limit = limit }
+
+abbrev pub pin : List ℕ → ℕ → Pin
+pin digits len = record { digits = digits; len = len; tries = full 3 }
+
+-- a PIN is 6 to 16 bytes, each 30 to 39; PIN bytes past its length are 00
+abbrev pub bad-pins : (Pin → Card) → List Card
+bad-pins with-pin =
+    with-pin (pin (replicate 5 0x31 ++ zeros 11) 5)
+    ∷ with-pin (pin (replicate 16 0x31) 17)
+    ∷ with-pin (pin (hex 0x1_31323334352F ++ zeros 10) 6)
+    ∷ with-pin (pin (hex 0x1_3132333A3536 ++ zeros 10) 6)
+    ∷ with-pin (pin (hex 0x1_313233343536 ++ (0x31 ∷ zeros 9)) 6)
+    ∷ with-pin (pin (hex 0x1_313233343536 ++ zeros 9 ++ (0x01 ∷ [])) 6)
+    -- sixteen places
+    ∷ with-pin (pin (hex 0x1_313233343536 ++ zeros 9) 6)
+    ∷ with-pin (pin (hex 0x1_313233343536 ++ zeros 11) 6)
+    ∷ []
+
+abbrev pub good-pins : (Pin → Card) → List Card
+good-pins with-pin = with-pin (pin (hex 0x1_303132333439 ++ zeros 10) 6) ∷ with-pin (pin (replicate 16 0x39) 16) ∷ []
+
+-- a limit of 1 to 128, tries left from 0 to the limit, and a held right has all its tries left
+abbrev pub bad-logins : Which → List Card
+bad-logins w =
+    withLogin w plain (tries 0 0) false
+    ∷ withLogin w plain (tries 129 129) false
+    ∷ withLogin w plain (tries 0 129) false
+    ∷ withLogin w plain (tries 4 3) false
+    ∷ withLogin w plain (tries 2 3) true
+    ∷ withLogin w plain (tries 0 3) true
+    ∷ []
+
+abbrev pub good-logins : Which → List Card
+good-logins w =
+    withLogin w plain (tries 0 1) false
+    ∷ withLogin w plain (tries 128 128) true
+    ∷ withLogin w plain (tries 2 3) false
+    ∷ withLogin w plain (tries 3 3) false
+    ∷ []
+
+abbrev pub credentials : List Edge
+credentials =
+    bad (withKey plain (keyOf (zeros 15) (full 3)) ∷ withKey plain (keyOf (zeros 17) (full 3)) ∷ [])
+    ++ bad (bad-pins (withAdmin plain)) ++ good (good-pins (withAdmin plain))
+    ++ bad (bad-pins (withUser plain)) ++ good (good-pins (withUser plain))
+    ++ bad (bad-logins device) ++ good (good-logins device)
+    ++ bad (bad-logins admin) ++ good (good-logins admin)
+    ++ bad (bad-logins user) ++ good (good-logins user)
+
+-- a card with these files alone
+abbrev pub having : List File → Card
+having fs = withDirectory (holder false false false) (add fs noFiles)
+
+-- a card whose places hold these, of which the first n count
+abbrev pub places : List File → ℕ → Card
+places fs n = withDirectory (holder false false false) (record { files = fs; count = n })
+
+-- one file, wrong in one thing
+abbrev pub bad-files : List Card
+bad-files =
+    -- SFI 1 to 30
+    having (newFile 0x1000 0x28 0 1 0x00 0x00 ∷ [])
+    ∷ having (newFile 0x101F 0x28 0 1 0x00 0x00 ∷ [])
+    -- types and sizes
+    ∷ having (newFile 0x1001 0x29 2 2 0x00 0x00 ∷ [])
+    ∷ having (newFile 0x1001 0x28 0 0 0x00 0x00 ∷ [])
+    ∷ having (newFile 0x1001 0x28 16 1 0x00 0x00 ∷ [])
+    ∷ having (newFile 0x1001 0x2A 1 1 0x00 0x00 ∷ [])
+    ∷ having (newFile 0x1001 0x2A 255 1 0x00 0x00 ∷ [])
+    ∷ having (newFile 0x1001 0x2E 2 0 0x00 0x00 ∷ [])
+    ∷ having (newFile 0x1001 0x2E 2 179 0x00 0x00 ∷ [])
+    -- no rights byte is bad
+    ∷ having (newFile 0x1001 0x28 0 1 0x02 0x00 ∷ [])
+    ∷ having (newFile 0x1001 0x28 0 1 0x00 0x8F ∷ [])
+    -- a 2E file holds at most its count, its newest place is below its count, and 00 where it holds none
+    ∷ having (withNewest (newFile 0x1001 0x2E 2 1 0x00 0x00) 3 1 ∷ [])
+    ∷ having (withNewest (newFile 0x1001 0x2E 2 1 0x00 0x00) 1 2 ∷ [])
+    ∷ having (withNewest (newFile 0x1001 0x2E 2 1 0x00 0x00) 0 1 ∷ [])
+    -- in any other both are 00
+    ∷ having (withNewest (newFile 0x1001 0x28 0 2 0x00 0x00) 1 0 ∷ [])
+    ∷ having (withNewest (newFile 0x1001 0x28 0 2 0x00 0x00) 0 1 ∷ [])
+    ∷ having (withNewest (newFile 0x1001 0x2A 2 1 0x00 0x00) 1 0 ∷ [])
+    ∷ having (withNewest (newFile 0x1001 0x2A 2 1 0x00 0x00) 0 1 ∷ [])
+    -- SFIs different in every file
+    ∷ having (newFile 0x1001 0x28 0 1 0x00 0x00 ∷ newFile 0x2001 0x28 0 1 0x00 0x00 ∷ [])
+    ∷ having (newFile 0x1001 0x28 0 1 0x00 0x00 ∷ newFile 0x1002 0x28 0 1 0x00 0x00 ∷ newFile 0x1001 0x28 0 1 0x00 0x00 ∷ [])
+    -- in the area
+    ∷ having (newFile 0x1001 0x28 16 0 0x00 0x00 ∷ newFile 0x1002 0x28 0 1 0x00 0x00 ∷ [])
+    ∷ having (newFile 0x1001 0x2A 254 178 0x00 0x00 ∷ [])
+    ∷ []
+
+-- directory places past the last file are unused: one field of the last place, or of the first, is not 00
+abbrev pub bad-places : List Card
+bad-places =
+    withDirectory plain (withFile cabinet 15 (newFile 1 0 0 0 0 0))
+    ∷ withDirectory plain (withFile cabinet 15 (newFile 0 1 0 0 0 0))
+    ∷ withDirectory plain (withFile cabinet 15 (newFile 0 0 1 0 0 0))
+    ∷ withDirectory plain (withFile cabinet 15 (newFile 0 0 0 1 0 0))
+    ∷ withDirectory plain (withFile cabinet 15 (newFile 0 0 0 0 1 0))
+    ∷ withDirectory plain (withFile cabinet 15 (newFile 0 0 0 0 0 1))
+    ∷ withDirectory plain (withFile cabinet 15 (withNewest blankFile 1 0))
+    ∷ withDirectory plain (withFile cabinet 8 (withNewest blankFile 0 1))
+    ∷ withDirectory plain (withFile noFiles 0 (newFile 0x1001 0x28 0 1 0x00 0x00))
+    -- the last of the files that count is none
+    ∷ places (cabinet .files) 9
+    -- sixteen places, at most 16 files
+    ∷ places (replicate 15 blankFile) 0
+    ∷ places (replicate 17 blankFile) 0
+    ∷ places (oneMore fifteen (newFile 0x1010 0x28 0 1 0x00 0x00) .files) 17
+    ∷ []
+
+abbrev pub good-files : List Card
+good-files =
+    having (newFile 0x0001 0x28 16 0 0x0F 0xC1 ∷ [])
+    ∷ having (newFile 0xFFFE 0x2A 254 16 0x81 0x41 ∷ [])
+    ∷ having (newFile 0x1001 0x2A 2 178 0x80 0x40 ∷ newFile 0x1002 0x28 14 156 0x01 0x00 ∷ [])
+    ∷ having (withNewest (newFile 0x1001 0x2E 2 1 0x00 0x00) 2 1 ∷ withNewest (newFile 0x1002 0x2E 254 1 0x00 0x00) 1 253 ∷ [])
+    ∷ places (oneMore fifteen (newFile 0x1010 0x28 0 1 0x00 0x00) .files) 16
+    ∷ []
+
+abbrev pub directories : List Edge
+directories = bad bad-files ++ bad bad-places ++ good good-files
+
+-- a session with this current file and challenge
+abbrev pub session : ℕ → List ℕ → ℕ → Card
+session current challenge len =
+    withSession plain (record { rights = rightsHeld false false false; current = current; challenge = challenge; len = len })
+
+-- the current file exists; the challenge is 4, 8 or 16 bytes or none, and bytes past it are 00
+abbrev pub bad-sessions : List Card
+bad-sessions =
+    session 9 (zeros 16) 0
+    ∷ session 255 (zeros 16) 0
+    ∷ session 0 (0x01 ∷ zeros 15) 0
+    ∷ session 0 (0x01 ∷ zeros 15) 1
+    ∷ session 0 (0x01 ∷ zeros 15) 5
+    ∷ session 0 (0x01 ∷ zeros 15) 12
+    ∷ session 0 random 17
+    ∷ session 0 random 8
+    ∷ session 0 (zeros 4 ++ (0x01 ∷ zeros 11)) 4
+    -- sixteen places
+    ∷ session 0 (zeros 15) 0
+    ∷ session 0 (zeros 17) 0
+    ∷ []
+
+abbrev pub good-sessions : List Card
+good-sessions = session 8 (zeros 16) 0 ∷ session 1 (zeros 16) 4 ∷ session 0 (replicate 8 0xFF ++ zeros 8) 8 ∷ session 0 random 16 ∷ []
+
+abbrev pub sessions : List Edge
+sessions = bad bad-sessions ++ good good-sessions
