@@ -20,11 +20,22 @@ extern "C" {
 #endif
 
 /* Outcomes. The numbers are those of the scope paper. */
-#define LIMPET_OK 0         /* served */
-#define LIMPET_BAD_LENGTH 6 /* key, block or output is not 16 bytes long */
+#define LIMPET_OK 0          /* served */
+#define LIMPET_SHORT_REPLY 1 /* the reply buffer is under 258 bytes */
+#define LIMPET_BAD_AREA 2    /* the data area is not 4,096 bytes long */
+#define LIMPET_BAD_RANDOM 3  /* the random input is not 16 bytes long */
+#define LIMPET_UNSOUND 4     /* the card's bytes are no state of a card */
+#define LIMPET_BAD_ISSUE 5   /* issue: a key, a PIN or a limit is not good */
+#define LIMPET_BAD_LENGTH 6  /* key, block or output is not 16 bytes long */
 
 /* Bytes of a key, of a block and of an output of limpet_aes128. */
 #define LIMPET_AES128_SIZE 16
+
+/* Bytes of the buffers of a card's calls. */
+#define LIMPET_AREA_SIZE 4096  /* the data area: exactly */
+#define LIMPET_RANDOM_SIZE 16  /* fresh random bytes: exactly */
+#define LIMPET_KEY_SIZE 16     /* the device key: exactly */
+#define LIMPET_REPLY_SIZE 258  /* the reply: at least */
 
 /*
  * AES-128 of one block under a key (FIPS 197, encryption).
@@ -54,6 +65,113 @@ extern "C" {
 uint8_t limpet_aes128(const uint8_t *key, size_t key_len,
                       const uint8_t *block, size_t block_len,
                       uint8_t *out, size_t out_len);
+
+/*
+ * A card: its credentials, tries, directory and session. What is in it is not
+ * for C to read or write; the contents of its files are in the data area. It
+ * holds the key and the PINs as they are: keep it where nobody else can read.
+ *
+ * The caller keeps the card and its area, 4,096 bytes, and lends both to each
+ * call, always the same two together: the call changes them in place. A card
+ * may be copied byte by byte while no call runs, together with its area.
+ */
+struct limpet_card;
+
+/*
+ * The bytes that a card takes. They have to be aligned to nothing, and none of
+ * them lies between the fields. A buffer of malloc(limpet_card_size()) will do,
+ * and so will
+ *
+ *   static uint8_t kept[LIMPET_CARD_SIZE];
+ *   struct limpet_card *card = (struct limpet_card *)kept;
+ *
+ * with a test at the start that limpet_card_size() is LIMPET_CARD_SIZE: then
+ * header and library are of one version.
+ */
+#define LIMPET_CARD_SIZE 222
+
+size_t limpet_card_size(void);
+
+/*
+ * Issues a card: full tries, no files, no right held, no challenge, and an
+ * area of 00. What the card's bytes were before does not matter.
+ *
+ * The device key is LIMPET_KEY_SIZE bytes. A PIN is 6 to 16 bytes, each an
+ * ASCII digit. A limit, of wrong presentations in a row, is 1 to 128.
+ *
+ *   LIMPET_OK         the card is issued.
+ *   LIMPET_BAD_AREA   area_len is not LIMPET_AREA_SIZE.
+ *   LIMPET_BAD_ISSUE  the key, a PIN or a limit is not as said above.
+ *
+ * There is no other outcome, and the first that applies is returned. On a
+ * refusal the area is as it was and the card is blank, each byte of it 00: a
+ * card that was there is gone. The other calls refuse a blank card. To keep an
+ * earlier card, issue into another one.
+ */
+uint8_t limpet_issue(struct limpet_card *card,
+                     uint8_t *area, size_t area_len,
+                     const uint8_t *key, size_t key_len, uint16_t device_limit,
+                     const uint8_t *admin_pin, size_t admin_pin_len, uint16_t admin_limit,
+                     const uint8_t *user_pin, size_t user_pin_len, uint16_t user_limit);
+
+/*
+ * Gives the card one command, of any bytes and any length, also none, and has
+ * its reply: data, and behind them the two bytes of the status word.
+ *
+ * random is LIMPET_RANDOM_SIZE bytes that were never used before and that
+ * nobody can foresee; a challenge is made of them. reply is at least
+ * LIMPET_REPLY_SIZE bytes, whatever the command.
+ *
+ *   LIMPET_OK           the command was served, which a status word that
+ *                       refuses is too. *reply_count is the number of reply
+ *                       bytes that are the answer, 2 to 258; the status word
+ *                       is the last two of them, high byte first. The rest of
+ *                       the reply is as it was. Card and area are as the
+ *                       command leaves them.
+ *   LIMPET_SHORT_REPLY  reply_len is under LIMPET_REPLY_SIZE.
+ *   LIMPET_BAD_AREA     area_len is not LIMPET_AREA_SIZE.
+ *   LIMPET_BAD_RANDOM   random_len is not LIMPET_RANDOM_SIZE.
+ *   LIMPET_UNSOUND      the card's bytes are no state of a card.
+ *
+ * There is no other outcome, and the first that applies is returned. On a
+ * refusal card, area and reply are as they were, and *reply_count is 0.
+ */
+uint8_t limpet_command(struct limpet_card *card,
+                       uint8_t *area, size_t area_len,
+                       const uint8_t *command, size_t command_len,
+                       const uint8_t *random, size_t random_len,
+                       uint8_t *reply, size_t reply_len,
+                       size_t *reply_count);
+
+/*
+ * Resets the card, as taking it out of the reader does: no right is held, no
+ * file is current, there is no challenge. Tries, PINs and files stay.
+ *
+ *   LIMPET_OK       the card is reset.
+ *   LIMPET_UNSOUND  the card's bytes are no state of a card, and are as they
+ *                   were.
+ *
+ * There is no other outcome.
+ */
+uint8_t limpet_reset(struct limpet_card *card);
+
+/*
+ * The caller's side of the three calls on a card:
+ *   - card points to limpet_card_size() bytes that can be read and written,
+ *     and is never NULL. reply_count points to a size_t, aligned as such, and
+ *     is never NULL; what it holds before does not matter.
+ *   - Each other buffer is a pointer and the number of bytes there, or less:
+ *     they can be read, and those of area and reply written, during the whole
+ *     call, for a length that is refused too. A pointer may be NULL, or point
+ *     nowhere, only where its number is 0. No such buffer has to be aligned.
+ *   - card, area, reply and reply_count overlap neither each other nor any
+ *     other buffer of the call. Those that are only read may overlap.
+ *
+ * The card's bytes may be any. Those that are no state of a card are refused
+ * with LIMPET_UNSOUND; any others are taken as the card that they are, also
+ * where no call ever left such a one. No byte before or after a buffer is
+ * written.
+ */
 
 #ifdef __cplusplus
 }

@@ -34,7 +34,8 @@ module _ {served : Bool} {xs : List ℕ} {at : ℕ} {ys l l′ : List ℕ} where
 -- each answer is written out: the value returned, and a place for each parameter, tt where nothing can change
 pub files : Files
 files = record {
-  state-rights-held = λ κs a x y. returned;
+  state-mark = λ κs a x y. returned;
+  state-no-rights = λ κs a x y. returned;
   state-new-file = λ κs a x y. returned;
   state-blank-file = λ κs a x y. returned;
   state-with-newest = λ κs a x y. returned;
@@ -46,8 +47,10 @@ files = record {
   numbers-less = λ κs a x y. returned;
   numbers-fewer = λ κs a x y. returned;
   numbers-ends-by = λ κs a x y. returned;
+  access-marked = λ κs a x y. returned;
   access-allowed = λ κs a x y. returned;
   access-good-rights = λ κs a x y. returned;
+  access-sound-rights = λ κs a x y. returned;
   sizes-has-records = λ κs a x y. returned;
   sizes-count = λ κs a x y. bounded;
   sizes-record-length = λ κs a x y. bounded;

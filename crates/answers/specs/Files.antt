@@ -3,7 +3,8 @@ use Rattle.files.proofs as files
 use Rattle.answers.specs.OneAnswer.{OneAnswer}
 
 pub record Files : Type 0 where
-  pub state-rights-held : OneAnswer files.state.rights_held.ended files.state.rights_held.Reads.Learnt
+  pub state-mark : OneAnswer files.state.mark.ended files.state.mark.Reads.Learnt
+  pub state-no-rights : OneAnswer files.state.no_rights.ended files.state.no_rights.Reads.Learnt
   pub state-new-file : OneAnswer files.state.new_file.ended files.state.new_file.Reads.Learnt
   pub state-blank-file : OneAnswer files.state.blank_file.ended files.state.blank_file.Reads.Learnt
   pub state-with-newest : OneAnswer files.state.with_newest.ended files.state.with_newest.Reads.Learnt
@@ -15,8 +16,10 @@ pub record Files : Type 0 where
   pub numbers-less : OneAnswer files.numbers.less.ended files.numbers.less.Reads.Learnt
   pub numbers-fewer : OneAnswer files.numbers.fewer.ended files.numbers.fewer.Reads.Learnt
   pub numbers-ends-by : OneAnswer files.numbers.ends_by.ended files.numbers.ends_by.Reads.Learnt
+  pub access-marked : OneAnswer files.access.marked.ended files.access.marked.Reads.Learnt
   pub access-allowed : OneAnswer files.access.allowed.ended files.access.allowed.Reads.Learnt
   pub access-good-rights : OneAnswer files.access.good_rights.ended files.access.good_rights.Reads.Learnt
+  pub access-sound-rights : OneAnswer files.access.sound_rights.ended files.access.sound_rights.Reads.Learnt
   pub sizes-has-records : OneAnswer files.sizes.has_records.ended files.sizes.has_records.Reads.Learnt
   pub sizes-count : OneAnswer files.sizes.count.ended files.sizes.count.Reads.Learnt
   pub sizes-record-length : OneAnswer files.sizes.record_length.ended files.sizes.record_length.Reads.Learnt

@@ -7,6 +7,8 @@ ghost use Rattle.rules.specs.Words.{allOf};
 ghost use Rattle.rules.specs.Tries.{goodLimit};
 ghost use Rattle.rules.specs.Sound.{digit, goodLength, goodPin, soundPin, soundLogin, goodChallenge, soundChallenge, sound};
 ghost use Rattle.card.specs.Ordered.{loginOf};
+use files::access::marked;
+use files::access::sound_rights;
 use files::numbers::fewer;
 use files::numbers::wide;
 use files::tests::both;
@@ -118,9 +120,10 @@ pub fn is_sound(card: Card) -> bool
     let rights = card.session.rights;
     let current = card.session.current <= card.directory.count;
     let session = both(current, sound_challenge(card.session));
-    let files = both(files::sound::is_sound(card.directory), session);
-    let user = both(sound_login(card.user.tries, rights.user), files);
-    let admin = both(sound_login(card.admin.tries, rights.admin), user);
-    let logins = both(sound_login(card.key.tries, rights.device), admin);
+    let held = both(sound_rights(rights), session);
+    let files = both(files::sound::is_sound(card.directory), held);
+    let user = both(sound_login(card.user.tries, marked(rights.user)), files);
+    let admin = both(sound_login(card.admin.tries, marked(rights.admin)), user);
+    let logins = both(sound_login(card.key.tries, marked(rights.device)), admin);
     both(sound_pin(card.admin), both(sound_pin(card.user), logins))
 }

@@ -12,7 +12,7 @@ use Rattle.files.specs.declared.File.{File}
 use Rattle.files.specs.declared.Directory.{Directory}
 use Rattle.files.specs.Part.{part, splice, over}
 use Rattle.files.specs.Types.{size}
-use Rattle.files.specs.Rights.{never, asks, allowed}
+use Rattle.files.specs.Rights.{never, marked, asks, allowed}
 use Rattle.files.specs.Directory.{used, file, start, extent, isPlace}
 use Rattle.files.specs.Words.{isZero}
 use Rattle.files.specs.Create.{areaSize, created}
@@ -55,8 +55,8 @@ module _ (c : Card) (l : Ledger) (agree : Agree c l) where
   unfolding allowed
   opens right h =
       let rights = c .session .rights in
-      let e = each (not (eqb right never) ∷ asks (right / 128 % 2) (rights .admin) ∷ asks (right / 64 % 2) (rights .user)
-      ∷ asks (right % 2) (rights .device) ∷ []) h in
+      let e = each (not (eqb right never) ∷ asks (right / 128 % 2) (marked (rights .admin)) ∷ asks (right / 64 % 2) (marked (rights .user))
+      ∷ asks (right % 2) (marked (rights .device)) ∷ []) h in
       record {
         admin = λ q. sym (ap (λ (x : Logins). x .admin .held) (agree .logins-are)) ∙ asked-one _ _ (e .1 .0) q;
         user = λ q. sym (ap (λ (x : Logins). x .user .held) (agree .logins-are)) ∙ asked-one _ _ (e .1 .1 .0) q;
@@ -163,7 +163,7 @@ module _ (c : Card) (k : Command) (random : List ℕ) where
   abbrev Counts : Ins → Effect → Type 0
   Counts i e =
       (e .card .directory .count ≡ c .directory .count)
-      ⊎ ((i ≡ CreateFile) × (c .session .rights .device ≡ true) × (e .card .directory .count ≡ c .directory .count + 1))
+      ⊎ ((i ≡ CreateFile) × (marked (c .session .rights .device) ≡ true) × (e .card .directory .count ≡ c .directory .count + 1))
 
   compare-counts : (i : Ins) (w : Which) (agrees : Bool) → Counts i (compared w c agrees)
   unfolding compared
@@ -188,7 +188,7 @@ module _ (c : Card) (k : Command) (random : List ℕ) where
   count-row Authenticate p = compare-counts Authenticate device _
   count-row ChangePin p = inl (value-counts (pinNamed k) (k .given))
   count-row ReloadPin p = inl refl
-  count-row CreateFile p = inr (refl, holds (c .session .rights .device) 0x6982 refl (p .1 .1 .0), refl)
+  count-row CreateFile p = inr (refl, holds (marked (c .session .rights .device)) 0x6982 refl (p .1 .1 .0), refl)
   count-row GetChallenge p = inl refl
   count-row Unlisted p = inl refl
 
@@ -197,7 +197,7 @@ module _ (c : Card) (k : Command) (random : List ℕ) where
 
 step-counts : (c : Card) (area cmd random : List ℕ)
     → (step c area cmd random .card .directory .count ≡ c .directory .count)
-    ⊎ ((listed (framed cmd) ≡ CreateFile) × (c .session .rights .device ≡ true)
+    ⊎ ((listed (framed cmd) ≡ CreateFile) × (marked (c .session .rights .device) ≡ true)
     × (step c area cmd random .card .directory .count ≡ c .directory .count + 1))
 unfolding step settled
 step-counts c area cmd random = counts c (framed cmd) random (listed (framed cmd))

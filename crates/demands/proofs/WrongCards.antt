@@ -7,6 +7,7 @@ use native.Mathlib.Omega.{arith}
 use Rattle.files.specs.Words.{allBelow}
 use Rattle.files.specs.Part.{part, splice, over, zeros}
 use Rattle.files.specs.Types.{count, recordLength, size, goodShape}
+use Rattle.files.specs.Rights.{soundRights}
 use Rattle.files.specs.Directory.{used, startAt}
 use Rattle.files.specs.Record.{soundHeld}
 use Rattle.files.specs.Create.{areaSize}
@@ -74,12 +75,12 @@ fails-at box before cmd see x y p q n = record {
 
 -- a challenge has data
 challenge-length : answered [] get-challenge .answer .n ≡ 6
-unfolding after run issue goodOrder goodPin allOf order get-challenge command sound soundPin soundLogin soundChallenge soundDirectory soundFile unusedPlace sfisDiffer soundHeld goodShape count recordLength size used startAt allBelow over part splice orElse caseOf framed rows find listed checks effectOf outcome settled step getChallengeChecks
+unfolding after run issue goodOrder goodPin allOf order get-challenge command sound soundPin soundLogin soundChallenge soundRights soundDirectory soundFile unusedPlace sfisDiffer soundHeld goodShape count recordLength size used startAt allBelow over part splice orElse caseOf framed rows find listed checks effectOf outcome settled step getChallengeChecks
 challenge-length = refl
 
 -- a wrong PIN costs a try, and is answered 63 and a count
 tries-after : login user (answered [] wrong-pin .answer .card) .tries .left ≡ 2
-unfolding after run issue goodOrder goodPin allOf same order wrong-pin command sound soundPin soundLogin soundChallenge soundDirectory soundFile unusedPlace sfisDiffer soundHeld goodShape count recordLength size used startAt allBelow over part splice orElse caseOf framed rows find listed checks effectOf outcome settled step verifyChecks compared
+unfolding after run issue goodOrder goodPin allOf same order wrong-pin command sound soundPin soundLogin soundChallenge soundRights soundDirectory soundFile unusedPlace sfisDiffer soundHeld goodShape count recordLength size used startAt allBelow over part splice orElse caseOf framed rows find listed checks effectOf outcome settled step verifyChecks compared
 tries-after = refl
 
 tries-before : login user (after order (zeros areaSize) [] .card) .tries .left ≡ 3
@@ -91,7 +92,7 @@ once : List Event
 once = sent get-challenge (zeros 16) (zeros replySize) ∷ []
 
 second-answer : byte (answered once wrong-pin .reply) 0 ≡ 0x63
-unfolding once after run issue goodOrder goodPin allOf same order wrong-pin get-challenge command sound soundPin soundLogin soundChallenge soundDirectory soundFile unusedPlace sfisDiffer soundHeld goodShape count recordLength size used startAt allBelow over part splice orElse caseOf framed rows find listed checks effectOf outcome settled step verifyChecks compared getChallengeChecks
+unfolding once after run issue goodOrder goodPin allOf same order wrong-pin get-challenge command sound soundPin soundLogin soundChallenge soundRights soundDirectory soundFile unusedPlace sfisDiffer soundHeld goodShape count recordLength size used startAt allBelow over part splice orElse caseOf framed rows find listed checks effectOf outcome settled step verifyChecks compared getChallengeChecks
 second-answer = refl
 
 pub refuses-all : RefusesAll

@@ -10,7 +10,7 @@ use Rattle.cipher.specs.Cipher.{roundKey, fullRound, lastRound, rounds, cipher,
 use Rattle.files.specs.Words.{allBelow}
 use Rattle.files.specs.Part.{part, splice, over}
 use Rattle.files.specs.Types.{count, recordLength, size, goodShape}
-use Rattle.files.specs.Rights.{allowed, goodRights}
+use Rattle.files.specs.Rights.{allowed, goodRights, soundRights}
 use Rattle.files.specs.Directory.{used, startAt, seek, findFid, findSfi}
 use Rattle.files.specs.Record.{back, next, recordsHeld, placeOf, recordStart, nextPlace, nextStart, appended, soundHeld}
 use Rattle.files.specs.Create.{goodContents, sfiUnused, room, created}
@@ -31,5 +31,5 @@ use Rattle.edges.specs.Table.{allHold}
 use Rattle.edges.specs.Edges.{edges}
 
 pub edges-hold : allHold edges ≡ true
-unfolding xPower square squares inverse sbox mixColumn expanded keyExpansion roundKey fullRound lastRound rounds cipher aes128 allBelow part splice over count recordLength size goodShape allowed goodRights used startAt seek findFid findSfi back next recordsHeld placeOf recordStart nextPlace nextStart appended soundHeld goodContents sfiUnused room created soundFile unusedPlace sfisDiffer soundDirectory orElse allOf same goodPin soundPin soundLogin soundChallenge sound caseOf framed rows find listed selectChecks target readBinaryChecks updateBinaryChecks readRecordChecks updateRecordChecks appendChecks compared verifyChecks changeChecks reloadChecks authenticateChecks getChallengeChecks fileGiven createChecks checks effectOf outcome settled step command reset goodOrder issue
+unfolding xPower square squares inverse sbox mixColumn expanded keyExpansion roundKey fullRound lastRound rounds cipher aes128 allBelow part splice over count recordLength size goodShape allowed goodRights soundRights used startAt seek findFid findSfi back next recordsHeld placeOf recordStart nextPlace nextStart appended soundHeld goodContents sfiUnused room created soundFile unusedPlace sfisDiffer soundDirectory orElse allOf same goodPin soundPin soundLogin soundChallenge sound caseOf framed rows find listed selectChecks target readBinaryChecks updateBinaryChecks readRecordChecks updateRecordChecks appendChecks compared verifyChecks changeChecks reloadChecks authenticateChecks getChallengeChecks fileGiven createChecks checks effectOf outcome settled step command reset goodOrder issue
 edges-hold = refl

@@ -63,7 +63,7 @@ abbrev pub issues : List Edge
 issues =
     issued (order key 1 six 128 sixteen-digits 1)
     (holding (λ c area. numbers c)
-    (key ++ (1 ∷ 1 ∷ []) ++ six ++ zeros 10 ++ (6 ∷ 128 ∷ 128 ∷ []) ++ sixteen-digits ++ (16 ∷ 1 ∷ 1 ∷ []) ++ zeros 150)
+    (key ++ (1 ∷ 1 ∷ []) ++ six ++ zeros 10 ++ (6 ∷ 128 ∷ 128 ∷ []) ++ sixteen-digits ++ (16 ∷ 1 ∷ 1 ∷ []) ++ zeros 166)
     ∷ bytesAt 0 4096 (zeros 4096)
     ∷ [])
     ∷ issued (order key 128 sixteen-digits 1 six 128) (line query 0x63CF ∷ [])
@@ -102,7 +102,7 @@ alone =
     ∷ reads 0x1_00B2_0114_02 0x1_1011
     ∷ line 0x1_00DC_0114_02_1011 0x9000
     ∷ line 0x1_00E2_0018_02_1819 0x9000
-    ∷ card-is (withCurrent (withDirectory (filed true true true) (withFile cabinet 2 (withNewest (newFile 0x1003 0x2E 3 2 0x00 0x00) 3 1))) 3)
+    ∷ card-is (withCurrent (withDirectory (filed true true true) (withFile cabinet 2 (withNewest (newFile 0x10 0x03 0x2E 3 2 0x00 0x00) 3 1))) 3)
     ∷ bytesAt 0 4096 told
     ∷ [])
     ∷ given (withCurrent (challenged (filed true true true)) 3) told
@@ -119,7 +119,7 @@ alone =
     ∷ [])
     ∷ given (withCurrent (filed true true true) 3) told
     (line 0x1_80E0_1009_05_2800010000 0x9000
-    ∷ card-is (withCurrent (withDirectory (filed true true true) (oneMore cabinet (newFile 0x1009 0x28 0 1 0x00 0x00))) 9)
+    ∷ card-is (withCurrent (withDirectory (filed true true true) (oneMore cabinet (newFile 0x10 0x09 0x28 0 1 0x00 0x00))) 9)
     ∷ [])
     -- the first check that fails gives the SW, no data, and no change but a dropped challenge
     ∷ given (withCurrent (challenged (filed true true true)) 3) told

@@ -5,12 +5,12 @@ use mathlib.Core.List.{List, [], _∷_, _++_}
 use lib.ListN.{replicate}
 use Rattle.files.specs.declared.File.{File}
 use Rattle.files.specs.Part.{zeros}
-use Rattle.files.specs.State.{rightsHeld, blankFile, newFile, withNewest, noFiles, withFile, oneMore}
+use Rattle.files.specs.State.{rightsOf, blankFile, newFile, withNewest, noFiles, withFile, oneMore}
 use Rattle.rules.specs.declared.Tries.{Tries}
 use Rattle.rules.specs.declared.Pin.{Pin}
 use Rattle.rules.specs.declared.Card.{Card}
 use Rattle.rules.specs.Tries.{full}
-use Rattle.rules.specs.State.{Which, device, admin, user, withKey, withAdmin, withUser, withDirectory, withSession, withLogin, keyOf}
+use Rattle.rules.specs.State.{Which, device, admin, user, withKey, withAdmin, withUser, withDirectory, withSession, withRights, withLogin, keyOf}
 use Rattle.edges.specs.Table.{hex, random, again, unreset, Edge, called}
 use Rattle.edges.specs.Cards.{holder, filed, add, cabinet}
 use Rattle.edges.specs.Create.{fifteen}
@@ -90,63 +90,64 @@ places fs n = withDirectory (holder false false false) (record { files = fs; cou
 abbrev pub bad-files : List Card
 bad-files =
     -- SFI 1 to 30
-    having (newFile 0x1000 0x28 0 1 0x00 0x00 ∷ [])
-    ∷ having (newFile 0x101F 0x28 0 1 0x00 0x00 ∷ [])
+    having (newFile 0x10 0x00 0x28 0 1 0x00 0x00 ∷ [])
+    ∷ having (newFile 0x10 0x1F 0x28 0 1 0x00 0x00 ∷ [])
     -- types and sizes
-    ∷ having (newFile 0x1001 0x29 2 2 0x00 0x00 ∷ [])
-    ∷ having (newFile 0x1001 0x28 0 0 0x00 0x00 ∷ [])
-    ∷ having (newFile 0x1001 0x28 16 1 0x00 0x00 ∷ [])
-    ∷ having (newFile 0x1001 0x2A 1 1 0x00 0x00 ∷ [])
-    ∷ having (newFile 0x1001 0x2A 255 1 0x00 0x00 ∷ [])
-    ∷ having (newFile 0x1001 0x2E 2 0 0x00 0x00 ∷ [])
-    ∷ having (newFile 0x1001 0x2E 2 179 0x00 0x00 ∷ [])
+    ∷ having (newFile 0x10 0x01 0x29 2 2 0x00 0x00 ∷ [])
+    ∷ having (newFile 0x10 0x01 0x28 0 0 0x00 0x00 ∷ [])
+    ∷ having (newFile 0x10 0x01 0x28 16 1 0x00 0x00 ∷ [])
+    ∷ having (newFile 0x10 0x01 0x2A 1 1 0x00 0x00 ∷ [])
+    ∷ having (newFile 0x10 0x01 0x2A 255 1 0x00 0x00 ∷ [])
+    ∷ having (newFile 0x10 0x01 0x2E 2 0 0x00 0x00 ∷ [])
+    ∷ having (newFile 0x10 0x01 0x2E 2 179 0x00 0x00 ∷ [])
     -- no rights byte is bad
-    ∷ having (newFile 0x1001 0x28 0 1 0x02 0x00 ∷ [])
-    ∷ having (newFile 0x1001 0x28 0 1 0x00 0x8F ∷ [])
+    ∷ having (newFile 0x10 0x01 0x28 0 1 0x02 0x00 ∷ [])
+    ∷ having (newFile 0x10 0x01 0x28 0 1 0x00 0x8F ∷ [])
     -- a 2E file holds at most its count, its newest place is below its count, and 00 where it holds none
-    ∷ having (withNewest (newFile 0x1001 0x2E 2 1 0x00 0x00) 3 1 ∷ [])
-    ∷ having (withNewest (newFile 0x1001 0x2E 2 1 0x00 0x00) 1 2 ∷ [])
-    ∷ having (withNewest (newFile 0x1001 0x2E 2 1 0x00 0x00) 0 1 ∷ [])
+    ∷ having (withNewest (newFile 0x10 0x01 0x2E 2 1 0x00 0x00) 3 1 ∷ [])
+    ∷ having (withNewest (newFile 0x10 0x01 0x2E 2 1 0x00 0x00) 1 2 ∷ [])
+    ∷ having (withNewest (newFile 0x10 0x01 0x2E 2 1 0x00 0x00) 0 1 ∷ [])
     -- in any other both are 00
-    ∷ having (withNewest (newFile 0x1001 0x28 0 2 0x00 0x00) 1 0 ∷ [])
-    ∷ having (withNewest (newFile 0x1001 0x28 0 2 0x00 0x00) 0 1 ∷ [])
-    ∷ having (withNewest (newFile 0x1001 0x2A 2 1 0x00 0x00) 1 0 ∷ [])
-    ∷ having (withNewest (newFile 0x1001 0x2A 2 1 0x00 0x00) 0 1 ∷ [])
+    ∷ having (withNewest (newFile 0x10 0x01 0x28 0 2 0x00 0x00) 1 0 ∷ [])
+    ∷ having (withNewest (newFile 0x10 0x01 0x28 0 2 0x00 0x00) 0 1 ∷ [])
+    ∷ having (withNewest (newFile 0x10 0x01 0x2A 2 1 0x00 0x00) 1 0 ∷ [])
+    ∷ having (withNewest (newFile 0x10 0x01 0x2A 2 1 0x00 0x00) 0 1 ∷ [])
     -- SFIs different in every file
-    ∷ having (newFile 0x1001 0x28 0 1 0x00 0x00 ∷ newFile 0x2001 0x28 0 1 0x00 0x00 ∷ [])
-    ∷ having (newFile 0x1001 0x28 0 1 0x00 0x00 ∷ newFile 0x1002 0x28 0 1 0x00 0x00 ∷ newFile 0x1001 0x28 0 1 0x00 0x00 ∷ [])
+    ∷ having (newFile 0x10 0x01 0x28 0 1 0x00 0x00 ∷ newFile 0x20 0x01 0x28 0 1 0x00 0x00 ∷ [])
+    ∷ having (newFile 0x10 0x01 0x28 0 1 0x00 0x00 ∷ newFile 0x10 0x02 0x28 0 1 0x00 0x00 ∷ newFile 0x10 0x01 0x28 0 1 0x00 0x00 ∷ [])
     -- in the area
-    ∷ having (newFile 0x1001 0x28 16 0 0x00 0x00 ∷ newFile 0x1002 0x28 0 1 0x00 0x00 ∷ [])
-    ∷ having (newFile 0x1001 0x2A 254 178 0x00 0x00 ∷ [])
+    ∷ having (newFile 0x10 0x01 0x28 16 0 0x00 0x00 ∷ newFile 0x10 0x02 0x28 0 1 0x00 0x00 ∷ [])
+    ∷ having (newFile 0x10 0x01 0x2A 254 178 0x00 0x00 ∷ [])
     ∷ []
 
 -- directory places past the last file are unused: one field of the last place, or of the first, is not 00
 abbrev pub bad-places : List Card
 bad-places =
-    withDirectory plain (withFile cabinet 15 (newFile 1 0 0 0 0 0))
-    ∷ withDirectory plain (withFile cabinet 15 (newFile 0 1 0 0 0 0))
-    ∷ withDirectory plain (withFile cabinet 15 (newFile 0 0 1 0 0 0))
-    ∷ withDirectory plain (withFile cabinet 15 (newFile 0 0 0 1 0 0))
-    ∷ withDirectory plain (withFile cabinet 15 (newFile 0 0 0 0 1 0))
-    ∷ withDirectory plain (withFile cabinet 15 (newFile 0 0 0 0 0 1))
+    withDirectory plain (withFile cabinet 15 (newFile 1 0 0 0 0 0 0))
+    ∷ withDirectory plain (withFile cabinet 15 (newFile 0 1 0 0 0 0 0))
+    ∷ withDirectory plain (withFile cabinet 15 (newFile 0 0 1 0 0 0 0))
+    ∷ withDirectory plain (withFile cabinet 15 (newFile 0 0 0 1 0 0 0))
+    ∷ withDirectory plain (withFile cabinet 15 (newFile 0 0 0 0 1 0 0))
+    ∷ withDirectory plain (withFile cabinet 15 (newFile 0 0 0 0 0 1 0))
+    ∷ withDirectory plain (withFile cabinet 15 (newFile 0 0 0 0 0 0 1))
     ∷ withDirectory plain (withFile cabinet 15 (withNewest blankFile 1 0))
     ∷ withDirectory plain (withFile cabinet 8 (withNewest blankFile 0 1))
-    ∷ withDirectory plain (withFile noFiles 0 (newFile 0x1001 0x28 0 1 0x00 0x00))
+    ∷ withDirectory plain (withFile noFiles 0 (newFile 0x10 0x01 0x28 0 1 0x00 0x00))
     -- the last of the files that count is none
     ∷ places (cabinet .files) 9
     -- sixteen places, at most 16 files
     ∷ places (replicate 15 blankFile) 0
     ∷ places (replicate 17 blankFile) 0
-    ∷ places (oneMore fifteen (newFile 0x1010 0x28 0 1 0x00 0x00) .files) 17
+    ∷ places (oneMore fifteen (newFile 0x10 0x10 0x28 0 1 0x00 0x00) .files) 17
     ∷ []
 
 abbrev pub good-files : List Card
 good-files =
-    having (newFile 0x0001 0x28 16 0 0x0F 0xC1 ∷ [])
-    ∷ having (newFile 0xFFFE 0x2A 254 16 0x81 0x41 ∷ [])
-    ∷ having (newFile 0x1001 0x2A 2 178 0x80 0x40 ∷ newFile 0x1002 0x28 14 156 0x01 0x00 ∷ [])
-    ∷ having (withNewest (newFile 0x1001 0x2E 2 1 0x00 0x00) 2 1 ∷ withNewest (newFile 0x1002 0x2E 254 1 0x00 0x00) 1 253 ∷ [])
-    ∷ places (oneMore fifteen (newFile 0x1010 0x28 0 1 0x00 0x00) .files) 16
+    having (newFile 0x00 0x01 0x28 16 0 0x0F 0xC1 ∷ [])
+    ∷ having (newFile 0xFF 0xFE 0x2A 254 16 0x81 0x41 ∷ [])
+    ∷ having (newFile 0x10 0x01 0x2A 2 178 0x80 0x40 ∷ newFile 0x10 0x02 0x28 14 156 0x01 0x00 ∷ [])
+    ∷ having (withNewest (newFile 0x10 0x01 0x2E 2 1 0x00 0x00) 2 1 ∷ withNewest (newFile 0x10 0x02 0x2E 254 1 0x00 0x00) 1 253 ∷ [])
+    ∷ places (oneMore fifteen (newFile 0x10 0x10 0x28 0 1 0x00 0x00) .files) 16
     ∷ []
 
 abbrev pub directories : List Edge
@@ -155,12 +156,16 @@ directories = bad bad-files ++ bad bad-places ++ good good-files
 -- a session with this current file and challenge
 abbrev pub session : ℕ → List ℕ → ℕ → Card
 session current challenge len =
-    withSession plain (record { rights = rightsHeld false false false; current = current; challenge = challenge; len = len })
+    withSession plain (record { rights = rightsOf 0 0 0; current = current; challenge = challenge; len = len })
 
 -- the current file exists; the challenge is 4, 8 or 16 bytes or none, and bytes past it are 00
 abbrev pub bad-sessions : List Card
 bad-sessions =
-    session 9 (zeros 16) 0
+    -- each right is kept as 0 or 1
+    withRights plain (rightsOf 2 0 0)
+    ∷ withRights plain (rightsOf 0 2 0)
+    ∷ withRights plain (rightsOf 0 0 255)
+    ∷ session 9 (zeros 16) 0
     ∷ session 255 (zeros 16) 0
     ∷ session 0 (0x01 ∷ zeros 15) 0
     ∷ session 0 (0x01 ∷ zeros 15) 1

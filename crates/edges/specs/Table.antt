@@ -55,10 +55,10 @@ pub data Edge : Type 0 where
   -- a sound card and an area, and commands: what a call does once it is known to be served. The card is sound afterwards too
   given : Card → List ℕ → List Line → Edge
 
--- every number of a card
 abbrev pub flag : Bool → ℕ
 flag b = cond b 1 0
 
+-- every number of a card
 abbrev pub triesNumbers : Tries → List ℕ
 triesNumbers t = t .left ∷ t .limit ∷ []
 
@@ -66,14 +66,14 @@ abbrev pub pinNumbers : Pin → List ℕ
 pinNumbers p = p .digits ++ (p .len ∷ triesNumbers (p .tries))
 
 abbrev pub fileNumbers : File → List ℕ
-fileNumbers f = f .fid ∷ f .kind ∷ f .size1 ∷ f .size2 ∷ f .read ∷ f .write ∷ f .held ∷ f .newest ∷ []
+fileNumbers f = f .fid1 ∷ f .fid2 ∷ f .kind ∷ f .size1 ∷ f .size2 ∷ f .read ∷ f .write ∷ f .held ∷ f .newest ∷ []
 
 abbrev pub filesNumbers : List File → List ℕ
 filesNumbers [] = []
 filesNumbers (f ∷ fs) = fileNumbers f ++ filesNumbers fs
 
 abbrev pub rightsNumbers : Rights → List ℕ
-rightsNumbers r = flag (r .device) ∷ flag (r .admin) ∷ flag (r .user) ∷ []
+rightsNumbers r = r .device ∷ r .admin ∷ r .user ∷ []
 
 abbrev pub numbers : Card → List ℕ
 numbers c =
@@ -130,7 +130,7 @@ obeys send c area (holding see expected ∷ ls) = equal (see c area) expected &&
 -- a blank state, all zero; the area unwritten
 abbrev pub leftBlank : Issued → ℕ → List ℕ → Bool
 leftBlank d outcome area =
-    eqb (d .answer .outcome) outcome && (eqb (d .answer .n) 0 && (equal (numbers (d .answer .card)) (replicate 206 0) && equal (d .area) area))
+    eqb (d .answer .outcome) outcome && (eqb (d .answer .n) 0 && (equal (numbers (d .answer .card)) (replicate 222 0) && equal (d .area) area))
 
 abbrev pub holds : Edge → Bool
 holds (issued o ls) =

@@ -19,7 +19,7 @@ soundFile f = every (goodSfi (sfi f) ∷ goodContents f ∷ soundHeld f ∷ [])
 unfoldable pub unusedPlace : File → Bool
 unusedPlace f =
     every
-    (isZero (f .fid) ∷ isZero (f .kind) ∷ isZero (f .size1) ∷ isZero (f .size2) ∷ isZero (f .read) ∷ isZero (f .write) ∷ isZero (f .held)
+    (isZero (f .fid1) ∷ isZero (f .fid2) ∷ isZero (f .kind) ∷ isZero (f .size1) ∷ isZero (f .size2) ∷ isZero (f .read) ∷ isZero (f .write) ∷ isZero (f .held)
     ∷ isZero (f .newest) ∷ [])
 
 -- a place holds a sound file up to the last, and nothing past it

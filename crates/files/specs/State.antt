@@ -9,23 +9,27 @@ use Rattle.files.specs.declared.Extent.{Extent}
 use Rattle.files.specs.declared.FileAnswer.{FileAnswer}
 use Rattle.files.specs.declared.DirectoryAnswer.{DirectoryAnswer}
 
--- the rights held
-abbrev pub rightsHeld : Bool → Bool → Bool → Rights
-rightsHeld device admin user = record { device = device; admin = admin; user = user }
+-- a right is kept as a number: 1 held, 0 not
+abbrev pub mark : Bool → ℕ
+mark held = cond held 1 0
+
+-- the three rights as they are kept
+abbrev pub rightsOf : ℕ → ℕ → ℕ → Rights
+rightsOf device admin user = record { device = device; admin = admin; user = user }
 
 -- an unused place
 abbrev pub blankFile : File
-blankFile = record { fid = 0; kind = 0; size1 = 0; size2 = 0; read = 0; write = 0; held = 0; newest = 0 }
+blankFile = record { fid1 = 0; fid2 = 0; kind = 0; size1 = 0; size2 = 0; read = 0; write = 0; held = 0; newest = 0 }
 
 -- a file as CREATE gives it: no record is held
-abbrev pub newFile : ℕ → ℕ → ℕ → ℕ → ℕ → ℕ → File
-newFile fid kind size1 size2 read write =
-    record { fid = fid; kind = kind; size1 = size1; size2 = size2; read = read; write = write; held = 0; newest = 0 }
+abbrev pub newFile : ℕ → ℕ → ℕ → ℕ → ℕ → ℕ → ℕ → File
+newFile fid1 fid2 kind size1 size2 read write =
+    record { fid1 = fid1; fid2 = fid2; kind = kind; size1 = size1; size2 = size2; read = read; write = write; held = 0; newest = 0 }
 
 -- the file with another number of records held and another newest place
 abbrev pub withNewest : File → ℕ → ℕ → File
 withNewest f held newest =
-    record { fid = f .fid; kind = f .kind; size1 = f .size1; size2 = f .size2; read = f .read; write = f .write; held = held; newest = newest }
+    record { fid1 = f .fid1; fid2 = f .fid2; kind = f .kind; size1 = f .size1; size2 = f .size2; read = f .read; write = f .write; held = held; newest = newest }
 
 -- the directory of a new card
 abbrev pub noFiles : Directory

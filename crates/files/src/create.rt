@@ -6,6 +6,7 @@ ghost use Rattle.files.specs.Create.{goodContents, room, created, create
 use crate::Directory;
 use crate::File;
 use crate::access::good_rights;
+use crate::find::sfi_of;
 use crate::find::sfi_unused;
 use crate::places::end;
 use crate::sizes::good_shape;
@@ -42,7 +43,7 @@ pub fn room(d: Directory, f: File) -> bool
 pub(crate) fn creates(d: Directory, f: File, area: usize) -> bool
     ensures { λ r. ⌜ r ≡ creates d f area ⌝ }
 {
-    let sfi = (f.fid % 32) as u8;
+    let sfi = sfi_of(f);
     let to = end(d) + size(f);
     let unused = sfi_unused(d, sfi);
     let fits = both(room(d, f), to <= area);

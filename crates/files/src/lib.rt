@@ -1,5 +1,6 @@
 // Files of a card: the directory, the extents in the lent data area, binary and record files. Document 01's words for all of it are in specs/.
 // A public function has no requirement: what it cannot serve it refuses, and leaves everything as it was.
+// What a card holds is laid out as C lays it out, since C keeps the card: bytes alone, so that there is no padding.
 
 pub mod state; // state.rt: values of the structs below
 pub mod tests; // tests.rt: tests joined
@@ -15,16 +16,19 @@ pub mod create; // create.rt: a new file
 pub mod sound; // sound.rt: a sound directory
 pub mod area; // area.rt: all of it on the whole area
 
-// The rights that are held.
+// The rights that are held: 1 held, 0 not.
+#[repr(C)]
 pub struct Rights {
-    pub device: bool,
-    pub admin: bool,
-    pub user: bool,
+    pub device: u8,
+    pub admin: u8,
+    pub user: u8,
 }
 
-// size1 and size2 are CREATE's two size bytes: size, high byte first, or count and record length.
+// The FID is two bytes, high byte first. size1 and size2 are CREATE's two size bytes: size, high byte first, or count and record length.
+#[repr(C)]
 pub struct File {
-    pub fid: u16,
+    pub fid1: u8,
+    pub fid2: u8,
     pub kind: u8,
     pub size1: u8,
     pub size2: u8,
@@ -34,6 +38,7 @@ pub struct File {
     pub newest: u8,
 }
 
+#[repr(C)]
 pub struct Directory {
     pub files: [File; 16],
     pub count: u8,

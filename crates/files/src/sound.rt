@@ -7,6 +7,7 @@ use crate::Directory;
 use crate::File;
 use crate::create::good_contents;
 use crate::create::good_sfi;
+use crate::find::sfi_of;
 use crate::find::sfis_differ;
 use crate::places::end;
 use crate::record::sound_held;
@@ -16,8 +17,7 @@ use crate::tests::both;
 pub fn sound_file(f: File) -> bool
     ensures { λ r. ⌜ r ≡ soundFile f ⌝ }
 {
-    let sfi = (f.fid % 32) as u8;
-    both(good_sfi(sfi), both(good_contents(f), sound_held(f)))
+    both(good_sfi(sfi_of(f)), both(good_contents(f), sound_held(f)))
 }
 
 // A place past the last file.
@@ -27,7 +27,7 @@ fn unused_place(f: File) -> bool
     let records = both(f.held == 0, f.newest == 0);
     let rights = both(f.read == 0, both(f.write == 0, records));
     let sizes = both(f.size1 == 0, both(f.size2 == 0, rights));
-    both(f.fid == 0, both(f.kind == 0, sizes))
+    both(f.fid1 == 0, both(f.fid2 == 0, both(f.kind == 0, sizes)))
 }
 
 // A file is sound, and a place past the last is unused.

@@ -1,7 +1,7 @@
 // A value of a struct of this crate is made here and nowhere else.
 ghost use mathlib.Core.Path.{_≡_};
 ghost use Prim.Native.Nat.{_<_};
-ghost use Rattle.files.specs.State.{rightsHeld, blankFile, newFile, withNewest, noFiles, withFile, oneMore, anExtent, fileAnswer, directoryAnswer};
+ghost use Rattle.files.specs.State.{mark, rightsOf, blankFile, newFile, withNewest, noFiles, withFile, oneMore, anExtent, fileAnswer, directoryAnswer};
 use crate::Directory;
 use crate::DirectoryAnswer;
 use crate::Extent;
@@ -9,23 +9,31 @@ use crate::File;
 use crate::FileAnswer;
 use crate::Rights;
 
-// Which rights are held.
-pub fn rights_held(device: bool, admin: bool, user: bool) -> Rights
-    ensures { λ r. ⌜ r ≡ rightsHeld device admin user ⌝ }
+// A right as it is kept.
+pub fn mark(held: bool) -> u8
+    ensures { λ r. ⌜ r ≡ mark held ⌝ }
+{
+    if held { 1 } else { 0 }
+}
+
+// None is held.
+pub fn no_rights() -> Rights
+    ensures { λ r. ⌜ r ≡ rightsOf 0 0 0 ⌝ }
 {
     Rights {
-        device,
-        admin,
-        user,
+        device: 0,
+        admin: 0,
+        user: 0,
     }
 }
 
 // A file as CREATE gives it: no record is held.
-pub fn new_file(fid: u16, kind: u8, size1: u8, size2: u8, read: u8, write: u8) -> File
-    ensures { λ r. ⌜ r ≡ newFile fid kind size1 size2 read write ⌝ }
+pub fn new_file(fid1: u8, fid2: u8, kind: u8, size1: u8, size2: u8, read: u8, write: u8) -> File
+    ensures { λ r. ⌜ r ≡ newFile fid1 fid2 kind size1 size2 read write ⌝ }
 {
     File {
-        fid,
+        fid1,
+        fid2,
         kind,
         size1,
         size2,
@@ -40,7 +48,7 @@ pub fn new_file(fid: u16, kind: u8, size1: u8, size2: u8, read: u8, write: u8) -
 pub fn blank_file() -> File
     ensures { λ r. ⌜ r ≡ blankFile ⌝ }
 {
-    new_file(0, 0, 0, 0, 0, 0)
+    new_file(0, 0, 0, 0, 0, 0, 0)
 }
 
 // The file with another number of records held and another newest place.

@@ -13,8 +13,10 @@ use Rattle.files.specs.declared.Rights.{Rights}
 use Rattle.files.specs.declared.Directory.{Directory}
 use Rattle.files.specs.Words.{isZero}
 use Rattle.files.specs.Part.{over, zeros}
+use Rattle.files.specs.State.{mark, rightsOf}
+use Rattle.files.specs.Rights.{marked, soundRights}
 use Rattle.files.specs.Sound.{soundDirectory}
-use Rattle.files.proofs.Checks.{each, all, both}
+use Rattle.files.proofs.Checks.{Every, each, all, both}
 use Rattle.files.proofs.Kept.{sound-none}
 use Rattle.rules.specs.declared.Tries.{Tries}
 use Rattle.rules.specs.declared.Pin.{Pin}
@@ -42,9 +44,10 @@ pub record Pinned (p : Pin) (held : Bool) : Type 0 where
   pub tries : Tried (p .tries) held
 
 pub record Good (c : Card) : Type 0 where
-  pub device : Keyed (c .key) (c .session .rights .device)
-  pub admin : Pinned (c .admin) (c .session .rights .admin)
-  pub user : Pinned (c .user) (c .session .rights .user)
+  pub device : Keyed (c .key) (marked (c .session .rights .device))
+  pub admin : Pinned (c .admin) (marked (c .session .rights .admin))
+  pub user : Pinned (c .user) (marked (c .session .rights .user))
+  pub rights : soundRights (c .session .rights) ≡ true
   pub directory : soundDirectory (c .directory) ≡ true
   pub current : c .session .current ≤ c .directory .count
   pub challenge : soundChallenge (c .session) ≡ true
@@ -69,6 +72,7 @@ soundList c =
     ∷ soundLogin (logins c .admin)
     ∷ soundLogin (logins c .user)
     ∷ soundDirectory (c .directory)
+    ∷ soundRights (c .session .rights)
     ∷ leb (c .session .current) (c .directory .count)
     ∷ soundChallenge (c .session)
     ∷ []
@@ -84,8 +88,9 @@ good c h =
       admin = record { pin = e .1 .0; tries = tried (logins c .admin) (t .1 .0) };
       user = record { pin = e .1 .1 .0; tries = tried (logins c .user) (t .1 .1 .0) };
       directory = f .0;
-      current = leb-true _ _ (f .1 .0);
-      challenge = f .1 .1;
+      rights = f .1 .0;
+      current = leb-true _ _ (f .1 .1 .0);
+      challenge = f .1 .1 .1;
     }
 
 pub is-sound : (c : Card) → Good c → sound c ≡ true
@@ -95,7 +100,7 @@ is-sound c g =
     let a = is-tried (logins c .admin) (g .admin .tries) in
     let u = is-tried (logins c .user) (g .user .tries) in
     let k = eq-eqb _ _ (g .device .bytes) in
-    all (soundList c) (k, (g .admin .pin, (g .user .pin, (d, (a, (u, (g .directory, (le-leb _ _ (g .current), g .challenge))))))))
+    all (soundList c) (k, (g .admin .pin, (g .user .pin, (d, (a, (u, (g .directory, (g .rights, (le-leb _ _ (g .current), g .challenge)))))))))
 
 -- all tries left, with or without the right; one try less, and a right dropped
 pub tried-full : (n : ℕ) (held : Bool) → goodLimit n ≡ true → Tried (full n) held
@@ -150,12 +155,30 @@ said-short n h =
     (λ k. one-of (eqb n 4) (eqb n 8 || eqb n 16) k (λ e. omega (arith, eqb-true n 4 e))
     (λ l. one-of (eqb n 8) (eqb n 16) l (λ e. omega (arith, eqb-true n 8 e)) (λ e. omega (arith, eqb-true n 16 e))))
 
+-- a right is read as it was marked
+pub marked-mark : (held : Bool) → marked (mark held) ≡ held
+marked-mark true = refl
+marked-mark false = refl
+
+mark-low : (held : Bool) → leb (mark held) 1 ≡ true
+mark-low true = refl
+mark-low false = refl
+
+module _ (r : Rights) where
+  rights-list : soundRights r ≡ true → Every (leb (r .device) 1 ∷ leb (r .admin) 1 ∷ leb (r .user) 1 ∷ [])
+  unfolding soundRights
+  rights-list h = each (leb (r .device) 1 ∷ leb (r .admin) 1 ∷ leb (r .user) 1 ∷ []) h
+
+  is-rights : Every (leb (r .device) 1 ∷ leb (r .admin) 1 ∷ leb (r .user) 1 ∷ []) → soundRights r ≡ true
+  unfolding soundRights
+  is-rights h = all (leb (r .device) 1 ∷ leb (r .admin) 1 ∷ leb (r .user) 1 ∷ []) h
+
 module _ (c : Card) (g : Good c) where
   -- the files and the current one
   pub placed : (d : Directory) (n : ℕ) → soundDirectory d ≡ true → n ≤ d .count → Good (withCurrent (withDirectory c d) n)
   unfolding soundChallenge
   placed d n h l =
-      record { device = g .device; admin = g .admin; user = g .user; directory = h; current = l; challenge = g .challenge }
+      record { device = g .device; admin = g .admin; user = g .user; directory = h; rights = g .rights; current = l; challenge = g .challenge }
 
   pub turned : (n : ℕ) → n ≤ c .directory .count → Good (withCurrent c n)
   turned n l = placed (c .directory) n (g .directory) l
@@ -167,22 +190,33 @@ module _ (c : Card) (g : Good c) where
   tried-in user = g .user .tries
 
   -- credentials and rights
-  credited : (k : Key) (a u : Pin) (r : Rights) → Keyed k (r .device) → Pinned a (r .admin) → Pinned u (r .user)
-      → Good (withRights (withKey (withAdmin (withUser c u) a) k) r)
+  credited : (k : Key) (a u : Pin) (r : Rights) → Keyed k (marked (r .device)) → Pinned a (marked (r .admin)) → Pinned u (marked (r .user))
+      → soundRights r ≡ true → Good (withRights (withKey (withAdmin (withUser c u) a) k) r)
   unfolding soundChallenge
-  credited k a u r hk ha hu =
-      record { device = hk; admin = ha; user = hu; directory = g .directory; current = g .current; challenge = g .challenge }
+  credited k a u r hk ha hu s =
+      record { device = hk; admin = ha; user = hu; directory = g .directory; rights = s; current = g .current; challenge = g .challenge }
 
   pub logged : (w : Which) (t : Tries) (held : Bool) → Tried t held → Good (withLogin w c t held)
   unfolding soundPin
-  logged device t held h = credited _ _ _ _ (record { bytes = g .device .bytes; tries = h }) (g .admin) (g .user)
-  logged admin t held h = credited _ _ _ _ (g .device) (record { pin = g .admin .pin; tries = h }) (g .user)
-  logged user t held h = credited _ _ _ _ (g .device) (g .admin) (record { pin = g .user .pin; tries = h })
+  logged w t held h =
+      let m : Tried t (marked (mark held)) = rw (marked-mark held) h in
+      let kept = rights-list (c .session .rights) (g .rights) in
+      go w m kept
+    where
+      go : (w : Which) → Tried t (marked (mark held))
+          → Every (leb (c .session .rights .device) 1 ∷ leb (c .session .rights .admin) 1 ∷ leb (c .session .rights .user) 1 ∷ [])
+          → Good (withLogin w c t held)
+      go device m kept =
+          credited _ _ _ _ (record { bytes = g .device .bytes; tries = m }) (g .admin) (g .user) (is-rights _ (mark-low held, kept .1))
+      go admin m kept =
+          credited _ _ _ _ (g .device) (record { pin = g .admin .pin; tries = m }) (g .user) (is-rights _ (kept .0, (mark-low held, kept .1 .1)))
+      go user m kept =
+          credited _ _ _ _ (g .device) (g .admin) (record { pin = g .user .pin; tries = m }) (is-rights _ (kept .0, (kept .1 .0, mark-low held)))
 
   -- a new value of one of the two PINs
   pub valued : (b : Bool) (d : List ℕ) → goodPin d ≡ true → Good (withValue (whichOf b admin user) c d)
-  valued true d h = credited _ _ _ _ (g .device) (record { pin = pin-sound d _ h; tries = g .admin .tries }) (g .user)
-  valued false d h = credited _ _ _ _ (g .device) (g .admin) (record { pin = pin-sound d _ h; tries = g .user .tries })
+  valued true d h = credited _ _ _ _ (g .device) (record { pin = pin-sound d _ h; tries = g .admin .tries }) (g .user) (g .rights)
+  valued false d h = credited _ _ _ _ (g .device) (g .admin) (record { pin = pin-sound d _ h; tries = g .user .tries }) (g .rights)
 
   pub challenged : (d : List ℕ) → sayable (length d) ≡ true → Good (withChallenge c d)
   unfolding soundChallenge
@@ -191,6 +225,7 @@ module _ (c : Card) (g : Good c) where
     admin = g .admin;
     user = g .user;
     directory = g .directory;
+    rights = g .rights;
     current = g .current;
     challenge =
         all (eqb (length (filled d)) 16 ∷ sayable (length d) ∷ allOf isZero (drop (length d) (filled d)) ∷ [])
@@ -202,12 +237,17 @@ none-sound : soundChallenge noSession ≡ true
 unfolding soundChallenge allOf
 none-sound = refl
 
+none-held : soundRights (noSession .rights) ≡ true
+unfolding soundRights
+none-held = refl
+
 pub ended : (c : Card) → Good c → Good (withSession c noSession)
 ended c g = record {
   device = record { bytes = g .device .bytes; tries = tried-dropped _ _ (g .device .tries) };
   admin = record { pin = g .admin .pin; tries = tried-dropped _ _ (g .admin .tries) };
   user = record { pin = g .user .pin; tries = tried-dropped _ _ (g .user .tries) };
   directory = g .directory;
+  rights = none-held;
   current = omega arith;
   challenge = none-sound;
 }
@@ -215,4 +255,4 @@ ended c g = record {
 -- a new card
 pub made : (k : Key) (a u : Pin) → Keyed k false → Pinned a false → Pinned u false → Good (newCard k a u)
 made k a u hk ha hu =
-    record { device = hk; admin = ha; user = hu; directory = sound-none; current = omega arith; challenge = none-sound }
+    record { device = hk; admin = ha; user = hu; directory = sound-none; rights = none-held; current = omega arith; challenge = none-sound }

@@ -5,6 +5,7 @@ use mathlib.Core.List.{List, [], _∷_}
 use lib.ListN.{length, drop}
 use lib.Dec.{eqb, leb}
 use Rattle.files.specs.Words.{every, isZero}
+use Rattle.files.specs.Rights.{soundRights}
 use Rattle.files.specs.Sound.{soundDirectory}
 use Rattle.rules.specs.declared.Pin.{Pin}
 use Rattle.rules.specs.declared.Session.{Session}
@@ -51,6 +52,7 @@ sound c =
     ∷ soundLogin (logins c .admin)
     ∷ soundLogin (logins c .user)
     ∷ soundDirectory (c .directory)
+    ∷ soundRights (c .session .rights)
     ∷ leb (c .session .current) (c .directory .count)
     ∷ soundChallenge (c .session)
     ∷ [])

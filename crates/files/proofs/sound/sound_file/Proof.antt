@@ -1,12 +1,11 @@
 -- `files::sound::sound_file` meets its contract. Assumes nothing.
 use mathlib.Core.Path.{_∙_}
 use Rattle.files.specs.Sound.{soundFile}
-use borrow.Author.Needs.{needs}
 use Rattle.files.proofs.sound.sound_file.Statement.{statement}
 use Rattle.files.proofs.sound.sound_file.Tie as tie
 
-cast-sfi : tie.Need-cast-sfi
-cast-sfi c = search needs
+sfi-of-requires : tie.Need-sfi-of-requires
+sfi-of-requires c κs = tt
 
 good-sfi-requires : tie.Need-good-sfi-requires
 good-sfi-requires c κs = tt
@@ -25,13 +24,13 @@ both-requires-2 c κs = tt
 
 returns : tie.Need-returns
 unfolding soundFile
-returns c = c .both2 .ensures ∙ rw (c .before .before .before .before .good-sfi .ensures, c .before .both .ensures, c .before .before .before .good-contents .ensures, c .before .before .sound-held .ensures)
+returns c = c .both2 .ensures ∙ rw (c .before .before .before .before .good-sfi .ensures, c .before .both .ensures, c .before .before .before .good-contents .ensures, c .before .before .sound-held .ensures, c .before .before .before .before .before .sfi-of .ensures)
 
 pub sound-file-spec : {M : Type 1} → statement M
 sound-file-spec =
     tie.close
     (tie.spec
-    cast-sfi
+    sfi-of-requires
     good-sfi-requires
     good-contents-requires
     sound-held-requires

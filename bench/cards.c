@@ -1,0 +1,143 @@
+#include "cards.h"
+
+#include <stdbool.h>
+#include <stdio.h>
+#include <string.h>
+
+#define ADMIN_PIN "87654321"
+#define USER_PIN "1234567890123456"
+
+const uint8_t fresh_random[LIMPET_RANDOM_SIZE] = {
+    0x00, 0x11, 0x22, 0x33, 0x44, 0x55, 0x66, 0x77, 0x88, 0x99, 0xAA, 0xBB, 0xCC, 0xDD, 0xEE, 0xFF
+};
+
+static const uint8_t key[LIMPET_KEY_SIZE] = {
+    0x00, 0x01, 0x02, 0x03, 0x04, 0x05, 0x06, 0x07, 0x08, 0x09, 0x0A, 0x0B, 0x0C, 0x0D, 0x0E, 0x0F
+};
+
+struct given given_bytes(const uint8_t *bytes, size_t length)
+{
+    return (struct given){ bytes, length, false };
+}
+
+struct given given_text(const char *text)
+{
+    return given_bytes((const uint8_t *)text, strlen(text));
+}
+
+struct order good_order(void)
+{
+    return (struct order){
+        .key = given_bytes(key, sizeof key), .device_limit = 128,
+        .admin_pin = given_text(ADMIN_PIN), .admin_limit = 5,
+        .user_pin = given_text(USER_PIN), .user_limit = 3
+    };
+}
+
+unsigned tell(struct held *h, const char *command)
+{
+    uint8_t bytes[300];
+    size_t length = 0;
+    unsigned byte;
+    int read;
+
+    while (length < sizeof bytes && sscanf(command, " %2x%n", &byte, &read) == 1) {
+        bytes[length++] = (uint8_t)byte;
+        command += read;
+    }
+    struct answer a = watched_command(h, given_bytes(bytes, length),
+                                      given_bytes(fresh_random, sizeof fresh_random), LIMPET_REPLY_SIZE, false);
+    if (a.outcome != LIMPET_OK)
+        return 0;
+    return 256u * a.reply[a.count - 2] + a.reply[a.count - 1];
+}
+
+/* A step in the making of a card: it has to end 9000. */
+static void told(struct held *h, const char *command)
+{
+    unsigned sw = tell(h, command);
+
+    if (sw != 0x9000)
+        wrong("the command %s of a card in the making ends %04X", command, sw);
+}
+
+static void log_in_device(struct held *h)
+{
+    told(h, "00 84 0000 10");
+    told(h, "00 82 0000 10 69C4E0D86A7B0430D8CDB78070B4C55A");
+}
+
+static void log_in_pins(struct held *h)
+{
+    told(h, "00 20 0000 08 3837363534333231");
+    told(h, "00 20 0001 10 31323334353637383930313233343536");
+}
+
+static void issue(struct held *h)
+{
+    struct order o = good_order();
+
+    if (watched_issue(h, &o) != LIMPET_OK)
+        wrong("a good order is refused");
+}
+
+/* A file of each type; four records appended to three places; the cyclic file is current. */
+static void with_files(struct held *h)
+{
+    issue(h);
+    log_in_device(h);
+    told(h, "80 E0 0101 05 28 0040 00 01");
+    told(h, "80 E0 0102 05 2A 0405 80 01");
+    told(h, "80 E0 0103 05 2E 0304 00 00");
+    told(h, "00 D6 8104 03 A1A2A3");
+    told(h, "00 DC 0214 05 B1B2B3B4B5");
+    told(h, "00 E2 0018 04 C1C1C1C1");
+    told(h, "00 E2 0018 04 C2C2C2C2");
+    told(h, "00 E2 0018 04 C3C3C3C3");
+    told(h, "00 E2 0018 04 C4C4C4C4");
+    if (watched_reset(h) != LIMPET_OK)
+        wrong("a reset of a card in the making is refused");
+    told(h, "00 A4 0000 02 0103");
+}
+
+static void with_rights(struct held *h)
+{
+    with_files(h);
+    log_in_device(h);
+    log_in_pins(h);
+    told(h, "00 84 0000 08");
+}
+
+/* One cyclic file with a record, user PIN without tries, admin PIN with some gone, a challenge of 16. */
+static void locked(struct held *h)
+{
+    issue(h);
+    log_in_device(h);
+    told(h, "80 E0 2A1E 05 2E FE10 0F 00");
+    told(h, "00 E2 0000 10 D0D1D2D3D4D5D6D7D8D9DADBDCDDDEDF");
+    for (int i = 0; i < 3; i++)
+        tell(h, "00 20 0001 06 313131313131");
+    tell(h, "00 20 0000 06 313131313131");
+    told(h, "00 84 0000 10");
+}
+
+/* Sixteen files, the whole area taken, device right held. */
+static void full(struct held *h)
+{
+    char command[64];
+
+    issue(h);
+    log_in_device(h);
+    for (unsigned sfi = 1; sfi <= 16; sfi++) {
+        snprintf(command, sizeof command, "80 E0 %04X 05 %s 41 C1", 0x4000 + sfi, sfi % 2 ? "28 0100" : "2E 4004");
+        told(h, command);
+    }
+}
+
+const struct sort sorts[SORTS] = {
+    { "fresh", issue },
+    { "with files and records", with_files },
+    { "with all rights and a challenge", with_rights },
+    { "with a locked PIN", locked },
+    { "with sixteen files", full },
+};

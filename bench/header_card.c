@@ -1,0 +1,33 @@
+/*
+ * Shows that limpetnook.h stands alone, may be included twice, and finds the
+ * functions on a card in the library: compiled as C and as C++, linked and run.
+ */
+#include "limpetnook.h"
+#include "limpetnook.h"
+
+static uint8_t kept[LIMPET_CARD_SIZE];
+static uint8_t area[LIMPET_AREA_SIZE];
+
+int main(void)
+{
+    struct limpet_card *card = (struct limpet_card *)kept;
+    const uint8_t key[LIMPET_KEY_SIZE] = { 0 };
+    const uint8_t pin[] = { '1', '2', '3', '4', '5', '6' };
+    const uint8_t random_input[LIMPET_RANDOM_SIZE] = { 0 };
+    const uint8_t query[] = { 0x00, 0x20, 0x00, 0x01 };
+    uint8_t reply[LIMPET_REPLY_SIZE];
+    size_t count = 0;
+
+    if (limpet_card_size() != LIMPET_CARD_SIZE)
+        return 1;
+    if (limpet_reset(card) != LIMPET_UNSOUND)
+        return 2;
+    if (limpet_issue(card, area, sizeof area, key, sizeof key, 3, pin, sizeof pin, 3, pin, sizeof pin, 3) != LIMPET_OK)
+        return 3;
+    if (limpet_command(card, area, sizeof area, query, sizeof query, random_input, sizeof random_input,
+                       reply, sizeof reply, &count) != LIMPET_OK)
+        return 4;
+    if (count != 2 || reply[0] != 0x63 || reply[1] != 0xC3)
+        return 5;
+    return limpet_reset(card) == LIMPET_OK ? 0 : 6;
+}

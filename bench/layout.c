@@ -1,0 +1,150 @@
+#include "layout.h"
+
+#include <string.h>
+
+/* In the order of a card. */
+static const struct {
+    size_t from;
+    const char *name;
+} fields[FIELDS] = {
+    { offsetof(struct layout, key), "device key" },
+    { offsetof(struct layout, key.tries), "device tries and limit" },
+    { offsetof(struct layout, admin), "admin PIN" },
+    { offsetof(struct layout, admin.length), "admin PIN's length" },
+    { offsetof(struct layout, admin.tries), "admin tries and limit" },
+    { offsetof(struct layout, user), "user PIN" },
+    { offsetof(struct layout, user.length), "user PIN's length" },
+    { offsetof(struct layout, user.tries), "user tries and limit" },
+    { offsetof(struct layout, directory.files), "files" },
+    { offsetof(struct layout, directory.count), "number of files" },
+    { offsetof(struct layout, session.device), "held rights" },
+    { offsetof(struct layout, session.current), "current file" },
+    { offsetof(struct layout, session.challenge), "challenge" },
+    { offsetof(struct layout, session.length), "challenge's length" },
+};
+
+size_t field_at(size_t place)
+{
+    size_t field = FIELDS - 1;
+
+    while (place < fields[field].from)
+        field--;
+    return field;
+}
+
+const char *field_name(size_t field)
+{
+    return fields[field].name;
+}
+
+static bool are_zero(const uint8_t *bytes, size_t from, size_t to)
+{
+    for (size_t i = from; i < to; i++)
+        if (bytes[i] != 0)
+            return false;
+    return true;
+}
+
+/* "A held right has all its tries left." And it is 0 or 1. */
+static bool sound_tries(struct tries t, uint8_t held)
+{
+    return held <= 1 && 1 <= t.limit && t.limit <= 128 && t.left <= t.limit && (held == 0 || t.left == t.limit);
+}
+
+static bool sound_pin(const struct pin *p)
+{
+    if (p->length < 6 || p->length > 16)
+        return false;
+    for (size_t i = 0; i < p->length; i++)
+        if (p->digits[i] < 0x30 || p->digits[i] > 0x39)
+            return false;
+    return are_zero(p->digits, p->length, PIN_ROOM);
+}
+
+static bool good_rights(uint8_t rights)
+{
+    return rights == 0x0F || (rights & ~0xC1) == 0;
+}
+
+/* The bytes of the area that a file takes, 0 where its type or size is bad. */
+static unsigned file_size(const struct file *f)
+{
+    unsigned both = 256u * f->size1 + f->size2;
+    bool records = 2 <= f->size1 && f->size1 <= 254 && 1 <= f->size2 && f->size2 <= 178;
+
+    switch (f->type) {
+    case 0x28:
+        return both <= 4096 ? both : 0;
+    case 0x2A:
+    case 0x2E:
+        return records ? (unsigned)f->size1 * f->size2 : 0;
+    default:
+        return 0;
+    }
+}
+
+static bool sound_held(const struct file *f)
+{
+    if (f->type != 0x2E)
+        return f->held == 0 && f->newest == 0;
+    return f->held <= f->size1 && f->newest < f->size1 && (f->held > 0 || f->newest == 0);
+}
+
+static unsigned sfi_of(const struct file *f)
+{
+    return f->fid2 & 31u;
+}
+
+static bool sound_file(const struct file *f)
+{
+    return 1 <= sfi_of(f) && sfi_of(f) <= 30 && file_size(f) > 0 && sound_held(f)
+        && good_rights(f->read) && good_rights(f->write);
+}
+
+static bool unused_file(const struct file *f)
+{
+    static const struct file unused;
+
+    return memcmp(f, &unused, sizeof unused) == 0;
+}
+
+static bool sound_directory(const struct directory *d)
+{
+    unsigned taken = 0;
+    uint32_t sfis = 0;
+
+    if (d->count > FILES)
+        return false;
+    for (size_t i = 0; i < FILES; i++) {
+        const struct file *f = &d->files[i];
+        if (i >= d->count) {
+            if (!unused_file(f))
+                return false;
+            continue;
+        }
+        if (!sound_file(f) || (sfis >> sfi_of(f) & 1) != 0)
+            return false;
+        sfis |= UINT32_C(1) << sfi_of(f);
+        taken += file_size(f);
+    }
+    return taken <= LIMPET_AREA_SIZE;
+}
+
+static bool sound_challenge(const struct session *s)
+{
+    return (s->length == 0 || s->length == 4 || s->length == 8 || s->length == 16)
+        && are_zero(s->challenge, s->length, CHALLENGE_ROOM);
+}
+
+bool is_sound(const uint8_t *card)
+{
+    struct layout c;
+
+    memcpy(&c, card, sizeof c);
+    return sound_tries(c.key.tries, c.session.device)
+        && sound_pin(&c.admin) && sound_tries(c.admin.tries, c.session.admin)
+        && sound_pin(&c.user) && sound_tries(c.user.tries, c.session.user)
+        && sound_directory(&c.directory)
+        && c.session.current <= c.directory.count
+        && sound_challenge(&c.session);
+}

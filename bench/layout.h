@@ -1,0 +1,68 @@
+/*
+ * The bytes of a card, for tests alone: a caller has no business there. They
+ * lie as the structs of crates/rules and crates/files have them. And what
+ * document 01, "What a card holds", says of them.
+ */
+#ifndef LAYOUT_H
+#define LAYOUT_H
+
+#include <stdbool.h>
+#include <stddef.h>
+#include <stdint.h>
+
+#include "limpetnook.h"
+
+enum { FILES = 16, PIN_ROOM = 16, CHALLENGE_ROOM = 16 };
+
+struct tries {
+    uint8_t left, limit;
+};
+
+struct key {
+    uint8_t bytes[LIMPET_KEY_SIZE];
+    struct tries tries;
+};
+
+struct pin {
+    uint8_t digits[PIN_ROOM];
+    uint8_t length;
+    struct tries tries;
+};
+
+/* A file; its FID has the high byte first, and its two size bytes are CREATE's. */
+struct file {
+    uint8_t fid1, fid2, type, size1, size2, read, write, held, newest;
+};
+
+struct directory {
+    struct file files[FILES];
+    uint8_t count;
+};
+
+/* A right is 1 where it is held and 0 where not; the current file is its place plus one. */
+struct session {
+    uint8_t device, admin, user;
+    uint8_t current;
+    uint8_t challenge[CHALLENGE_ROOM];
+    uint8_t length;
+};
+
+struct layout {
+    struct key key;
+    struct pin admin, user;
+    struct directory directory;
+    struct session session;
+};
+
+_Static_assert(sizeof(struct layout) == LIMPET_CARD_SIZE, "the card is laid out in another way");
+_Static_assert(_Alignof(struct layout) == 1, "the card has to be aligned");
+
+/* Which field the byte at that place belongs to, and its name, for reports. */
+enum { FIELDS = 14 };
+size_t field_at(size_t place);
+const char *field_name(size_t field);
+
+/* Whether the bytes are a sound state, by document 01. */
+bool is_sound(const uint8_t *card);
+
+#endif

@@ -1,0 +1,75 @@
+// The card in place: lent by `&mut`, driven from C through call after call. Each function calls the step that takes a card by value, and stores
+// the answer.
+ghost use mathlib.Core.Path.{_≡_};
+ghost use Rattle.rules.specs.Calls.{issue, command, reset};
+ghost use Rattle.card.specs.Ordered.{orderOf};
+ghost use Rattle.card.specs.Place.{Placed, PlacesIssue, PlacesCommand, cardSize};
+use crate::issue::issue;
+use crate::issue::reset;
+use crate::step::command;
+use rules::Card;
+
+// No function of the language says how large a value is; the contract does.
+const CARD_SIZE: usize = 222;
+
+// The bytes that a card takes.
+#[no_mangle]
+pub extern "C" fn limpet_card_size() -> usize
+    ensures { λ r. ⌜ r ≡ cardSize ⌝ }
+{
+    CARD_SIZE
+}
+
+// The card before it does not matter; a refused issue leaves a blank one.
+#[no_mangle]
+pub extern "C" fn limpet_issue(
+    card: &mut Card,
+    area: &mut [u8],
+    key: &[u8],
+    device_limit: u16,
+    admin_pin: &[u8],
+    admin_limit: u16,
+    user_pin: &[u8],
+    user_limit: u16,
+) -> u8
+    ensures { λ r. ⌜ PlacesIssue (issue (orderOf (now (key .entry)) «device_limit» (now («admin_pin» .entry)) «admin_limit» (now («user_pin» .entry)) «user_limit») (now (area .entry))) r (now (card .exit)) (now (area .exit)) ⌝ }
+{
+    let issued = issue(
+        area,
+        key,
+        device_limit,
+        admin_pin,
+        admin_limit,
+        user_pin,
+        user_limit,
+    );
+    *card = issued.card;
+    issued.outcome
+}
+
+// How many bytes of the reply are the answer is stored through count.
+#[no_mangle]
+pub extern "C" fn limpet_command(
+    card: &mut Card,
+    area: &mut [u8],
+    cmd: &[u8],
+    random: &[u8],
+    reply: &mut [u8],
+    count: &mut usize,
+) -> u8
+    ensures { λ r. ⌜ PlacesCommand (command (now (card .entry)) (now (area .entry)) (now (cmd .entry)) (now (random .entry)) (now (reply .entry))) r (now (card .exit)) (now (area .exit)) (now (reply .exit)) (now (count .exit)) ⌝ }
+{
+    let done = command(*card, area, cmd, random, reply);
+    *card = done.card;
+    *count = done.n;
+    done.outcome
+}
+
+#[no_mangle]
+pub extern "C" fn limpet_reset(card: &mut Card) -> u8
+    ensures { λ r. ⌜ Placed (reset (now (card .entry))) r (now (card .exit)) ⌝ }
+{
+    let cleared = reset(*card);
+    *card = cleared.card;
+    cleared.outcome
+}
