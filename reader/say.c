@@ -1,0 +1,38 @@
+#include "say.h"
+
+#include <stdarg.h>
+#include <stdio.h>
+
+bool verbose = false;
+
+void say(const char *format, ...)
+{
+    va_list rest;
+    va_start(rest, format);
+    fputs("limpet-reader: ", stderr);
+    vfprintf(stderr, format, rest);
+    fputc('\n', stderr);
+    va_end(rest);
+}
+
+static void print_hex(const char *sign, struct bytes text)
+{
+    fputs(sign, stderr);
+    for (size_t i = 0; i < text.len; i++)
+        fprintf(stderr, "%02X", text.at[i]);
+    fputc('\n', stderr);
+}
+
+void say_exchange(struct bytes command, struct bytes answer)
+{
+    if (!verbose)
+        return;
+    print_hex("> ", command);
+    print_hex("< ", answer);
+}
+
+void say_event(const char *event)
+{
+    if (verbose)
+        fprintf(stderr, "- %s\n", event);
+}

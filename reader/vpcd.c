@@ -1,0 +1,194 @@
+#define _DEFAULT_SOURCE /* getrandom, TCP_QUICKACK */
+#include "vpcd.h"
+
+#include <arpa/inet.h>
+#include <errno.h>
+#include <netinet/in.h>
+#include <netinet/tcp.h>
+#include <string.h>
+#include <sys/random.h>
+#include <sys/socket.h>
+#include <unistd.h>
+
+#include "card.h"
+#include "say.h"
+
+/* Messages of one byte from vpcd. Any other message is a command. */
+enum { POWER_OFF = 0, POWER_ON = 1, RESET = 2, GET_ATR = 4 };
+
+/* A message is two length bytes, high byte first, and a body. */
+enum { HEAD_SIZE = 2, BODY_MAX = 0xFFFF };
+
+/*
+ * The answer to reset (ISO/IEC 7816-3). The card speaks T=1 alone, which hands a command over whole and its data back with the
+ * status word; T=0 would have the reader ask for them by a command that the card does not have.
+ */
+static const uint8_t atr[] = {
+    0x3B, /* TS: direct convention */
+    0x8A, /* T0: TD1 follows; 10 historical bytes */
+    0x81, /* TD1: TD2 follows; the first protocol is T=1 */
+    0x31, /* TD2: TA3 and TB3 follow, and are T=1's */
+    0xFE, /* TA3: the card takes blocks of up to 254 bytes, the most there are */
+    0x45, /* TB3: block waiting time 1.6 s (BWI 4), character waiting time 43 etu (CWI 5), the usual ones */
+    0x80, /* historical bytes follow as compact TLV (ISO/IEC 7816-4) */
+    0x71, 0x16, /* capabilities: selection by FID, short file numbers, record numbers */
+    0x56, 'L', 'I', 'M', 'P', 'E', 'T', /* the issuer's own data, 6 bytes: a name that a person can recognise */
+    0x39, /* TCK: makes the exclusive or of all bytes from T0 on 0 */
+};
+
+int vpcd_connect(uint16_t port)
+{
+    struct sockaddr_in to = { .sin_family = AF_INET, .sin_port = htons(port) };
+    int s = socket(AF_INET, SOCK_STREAM, 0);
+
+    to.sin_addr.s_addr = htonl(INADDR_LOOPBACK);
+    if (s < 0 || connect(s, (const struct sockaddr *)&to, sizeof to) != 0) {
+        say("no virtual reader on 127.0.0.1 port %u: %s; is pcscd running, with the driver of vsmartcard-vpcd?",
+            (unsigned)port, strerror(errno));
+        if (s >= 0)
+            close(s);
+        return -1;
+    }
+    return s;
+}
+
+/*
+ * Only for speed, so a failure does not matter. vpcd sends head and body apart, and the second waits until the first is
+ * acknowledged, which Linux puts off for 40 ms. It forgets the wish after a while, so it is told each time.
+ */
+static void acknowledge_at_once(int s)
+{
+    int one = 1;
+    setsockopt(s, IPPROTO_TCP, TCP_QUICKACK, &one, sizeof one);
+}
+
+/* Reads len bytes. Returns how many came before the other end closed, or -1. */
+static ssize_t receive_all(int s, uint8_t *room, size_t len)
+{
+    size_t have = 0;
+    while (have < len) {
+        ssize_t got;
+        acknowledge_at_once(s);
+        got = recv(s, room + have, len - have, 0);
+        if (got < 0 && errno == EINTR)
+            continue;
+        if (got < 0)
+            return -1;
+        if (got == 0)
+            break;
+        have += (size_t)got;
+    }
+    return (ssize_t)have;
+}
+
+/* One message. 1: it is there. 0: the other end closed before it. -1: the connection broke, which is said. */
+static int receive(int s, uint8_t body[BODY_MAX], size_t *len)
+{
+    uint8_t head[HEAD_SIZE];
+    ssize_t got = receive_all(s, head, sizeof head);
+
+    if (got == 0)
+        return 0;
+    if (got == sizeof head) {
+        *len = (size_t)head[0] << 8 | head[1];
+        got = receive_all(s, body, *len);
+        if (got >= 0 && (size_t)got == *len)
+            return 1;
+    }
+    say("the connection to the virtual reader broke: %s", got < 0 ? strerror(errno) : "it ended within a message");
+    return -1;
+}
+
+/* Head and body go out in one call, so that vpcd finds them together. */
+static bool answer(int s, const uint8_t *body, size_t len)
+{
+    uint8_t message[HEAD_SIZE + LIMPET_REPLY_SIZE] = { (uint8_t)(len >> 8), (uint8_t)len };
+    size_t all = HEAD_SIZE + len, sent = 0;
+
+    memcpy(message + HEAD_SIZE, body, len);
+    while (sent < all) {
+        ssize_t went = send(s, message + sent, all - sent, MSG_NOSIGNAL);
+        if (went < 0 && errno == EINTR)
+            continue;
+        if (went < 0) {
+            say("the connection to the virtual reader broke: %s", strerror(errno));
+            return false;
+        }
+        sent += (size_t)went;
+    }
+    return true;
+}
+
+static bool fresh(uint8_t random[LIMPET_RANDOM_SIZE])
+{
+    ssize_t got;
+    do
+        got = getrandom(random, LIMPET_RANDOM_SIZE, 0);
+    while (got < 0 && errno == EINTR);
+    if (got == LIMPET_RANDOM_SIZE)
+        return true;
+    say("no random bytes: %s", got < 0 ? strerror(errno) : "too few");
+    return false;
+}
+
+/* The card's answer to a command. 6F00 only where it could not be asked, which good buffers rule out. */
+static size_t ask(struct bytes command, uint8_t reply[LIMPET_REPLY_SIZE])
+{
+    uint8_t random[LIMPET_RANDOM_SIZE], outcome;
+    size_t count;
+
+    if (fresh(random)) {
+        outcome = card_command(command, (struct bytes){ random, sizeof random }, reply, &count);
+        if (outcome == LIMPET_OK)
+            return count;
+        say("command not served, outcome %u: %s", (unsigned)outcome, outcome_says(outcome));
+    }
+    reply[0] = 0x6F;
+    reply[1] = 0x00;
+    return 2;
+}
+
+static void reset(const char *event)
+{
+    uint8_t outcome = card_reset();
+    say_event(event);
+    if (outcome != LIMPET_OK)
+        say("reset not served, outcome %u: %s", (unsigned)outcome, outcome_says(outcome));
+}
+
+/* Serves one message. Whether the connection still stands. */
+static bool serve(int s, struct bytes message)
+{
+    uint8_t reply[LIMPET_REPLY_SIZE];
+    size_t count;
+
+    switch (message.len == 1 ? message.at[0] : -1) {
+    case POWER_OFF:
+        reset("power off");
+        return true;
+    case POWER_ON:
+        reset("power on");
+        return true;
+    case RESET:
+        reset("reset");
+        return true;
+    case GET_ATR:
+        return answer(s, atr, sizeof atr);
+    default:
+        count = ask(message, reply);
+        say_exchange(message, (struct bytes){ reply, count });
+        return answer(s, reply, count);
+    }
+}
+
+bool vpcd_serve(int s)
+{
+    static uint8_t body[BODY_MAX];
+    size_t len;
+    int got;
+
+    while ((got = receive(s, body, &len)) == 1)
+        if (!serve(s, (struct bytes){ body, len }))
+            return false;
+    return got == 0;
+}

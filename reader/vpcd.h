@@ -1,0 +1,16 @@
+/* The card's end of a connection to vpcd, the virtual reader of Debian's package vsmartcard-vpcd. */
+#ifndef READER_VPCD_H
+#define READER_VPCD_H
+
+#include <stdbool.h>
+#include <stdint.h>
+
+#define VPCD_PORT 35963 /* where vpcd waits for a card unless it is told otherwise */
+
+/* Connects to 127.0.0.1. Returns the socket, or -1 and says why. */
+int vpcd_connect(uint16_t port);
+
+/* Serves until vpcd closes the connection, which is a good end, or the connection breaks. */
+bool vpcd_serve(int connection);
+
+#endif

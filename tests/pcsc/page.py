@@ -1,0 +1,110 @@
+#!/usr/bin/env python3
+"""docs/STANDBY.md: each transcript is typed at a terminal, in order, and has to come out as the page has it.
+
+A transcript is a block marked console. A line with $ is typed at the shell. Below it a command in hex, reset and exit are typed
+to scriptor, each when the one before is answered; the rest is what the terminal shows. What is typed without being shown stands
+in a remark before the block. Blanks at the end of a line do not count.
+"""
+import os
+import re
+
+from stack import ROOT, OpenscTool, Scriptor, Terminal, card, card_present, check, end, wait_until
+
+PAGE = os.path.join(ROOT, "docs", "STANDBY.md")
+BLOCK = re.compile(r"(?:<!-- typed: (\S+) -->\n)?```console\n(.*?)```\n", re.DOTALL)
+TYPED = re.compile(r"[0-9A-F]{8,}|reset|exit")
+
+
+def calls(block):
+    """The block cut at its shell lines: each command with the lines below it."""
+    for part in re.split(r"^\$ ", block, flags=re.MULTILINE)[1:]:
+        command, _, shown = part.partition("\n")
+        yield command, [line.rstrip() for line in shown.splitlines()]
+
+
+def seen(command, lines, hidden):
+    """What the terminal shows when the command is run and the lines are typed that are to be typed."""
+    terminal = Terminal("bash", "-c", command)
+    if command == "scriptor":
+        terminal.wait_for("^Reading commands from STDIN\n")
+        for line in filter(TYPED.fullmatch, lines):
+            terminal.type(line)
+            if line != "exit":
+                terminal.wait_for(r"^< [^:]*:.*\n")
+    elif hidden:
+        terminal.wait_for(r"\): $")
+        terminal.type(hidden)
+    terminal.end()
+    return [line.rstrip() for line in terminal.text.splitlines()]
+
+
+def first_difference(lines, got):
+    for number, (line, other) in enumerate(zip(lines + [None], got + [None]), 1):
+        if line != other:
+            return f"line {number} of it is {other!r} and not {line!r}"
+    return ""
+
+
+with open(PAGE, encoding="utf-8") as file:
+    page = file.read()
+
+blocks = BLOCK.findall(page)
+check("the page has transcripts", len(blocks) >= 6, len(blocks))
+check("every console block is read", page.count("```console") == len(blocks), len(blocks))
+
+# A command in a table that no transcript runs could be wrong without being noticed.
+run = "".join(block for _, block in blocks)
+for command in sorted(set(re.findall(r"`((?:00|80)[0-9A-F]{6,})`", page))):
+    check(f"{command} is in a transcript", re.search(rf"(^|-s ){command}( |$)", run, re.MULTILINE) is not None)
+
+def transcripts():
+    with card("examples/box.script") as reader:
+        answers = re.findall("^< (.*)$", reader.said().partition("limpet-reader: ")[0], re.MULTILINE)
+        check("the script of the box is served throughout", len(answers) == 11 and all(a.endswith("9000") for a in answers), answers)
+        for number, (hidden, block) in enumerate(blocks, 1):
+            for command, lines in calls(block):
+                got = seen(command, lines, hidden)
+                check(f"transcript {number}, {command}", got == lines, first_difference(lines, got))
+
+
+def says(remark, *words, **environment):
+    """The program says what the page says that it may say."""
+    terminal = Terminal("env", *(f"{name}={value}" for name, value in environment.items()), *words)
+    terminal.end()
+    check(f"{words[0]} says {remark}", remark in terminal.text and f"`{remark}`" in page, terminal.text)
+
+
+def scriptor_ends(remark, happens):
+    """scriptor is connected, something happens, and the next command ends it."""
+    scriptor = Scriptor()
+    happens()
+    scriptor.type("00200001")
+    Terminal.end(scriptor)
+    check(f"scriptor says {remark}", remark in scriptor.text and f"`{remark}`" in page, scriptor.text)
+
+
+def programs():
+    opensc = ["opensc-tool", "-c", "default", "-s", "00200001"]
+    says("No smartcard inserted.", "scriptor")
+    says("Card not present", *opensc)
+    says("no card in the reader", "tools/alarms")
+    nowhere = {"PCSCLITE_CSOCK_NAME": "/nonexistent"}  # where the programs look for pcscd
+    says("Service not available.", "scriptor", **nowhere)
+    says("No smart card readers found.", *opensc, **nowhere)
+    says("pcscd is not running", "tools/alarms", **nowhere)
+    with card("examples/box.script") as reader:
+        scriptor_ends("Card was reset.", OpenscTool().reset)
+        scriptor = Scriptor()
+        says("another program is using the card", "tools/alarms")
+        scriptor.end()
+
+        def removed():
+            reader.end()
+            wait_until(lambda: not card_present(), "the card's removal")
+
+        scriptor_ends("Card was removed.", removed)
+
+
+transcripts()
+programs()
+end()

@@ -1,0 +1,204 @@
+#!/usr/bin/env python3
+"""A session with the card through scriptor and through opensc-tool, each answer held to document 01.
+
+What is expected was worked out from document 01, and stands with the reason; cryptograms are openssl's.
+"""
+import subprocess
+import tempfile
+
+from stack import ISSUE_WORDS, KEY, OpenscTool, Scriptor, card, check, end, wait_until
+
+ALARMS = ["000000010702000C", "0000000203010005", "000000030702002D", "0000000420060078", "000000050C040003"]
+RIGHT_PIN, WRONG_PIN = "0020000106313233343536", "0020000106313131313131"
+QUERY = "00200001"
+
+
+def cryptogram(challenge):
+    """AES-128 under the device key of the challenge filled with 00 to 16 bytes, by openssl."""
+    block = bytes.fromhex(challenge).ljust(16, b"\0")
+    command = ["openssl", "enc", "-aes-128-ecb", "-nopad", "-K", KEY]
+    return subprocess.run(command, input=block, capture_output=True, check=True).stdout.hex().upper()
+
+
+class Asking:
+    """Commands to a client, each answer compared. Prints nothing where all is as expected."""
+
+    def __init__(self, client):
+        self.client = client
+
+    def __call__(self, command, expected, why):
+        """expected: the data and the status word, as the card sends them."""
+        data, word = self.client.send(command)
+        shown = command if len(command) < 50 else command[:50] + "..."
+        check(f"{self.client.name}: {shown} is {expected or 'nothing'}, for {why}", data + word == expected, data + word)
+
+    def challenge(self, size):
+        data, word = self.client.send(f"00840000{size:02X}")
+        check(f"{self.client.name}: a challenge of {size}", (len(data), word) == (2 * size, "9000"), data + word)
+        return data
+
+    def reset(self):
+        check(f"{self.client.name}: reset", self.client.reset())
+
+
+def before_login(ask):
+    ask(QUERY, "63C3", "issue gives full tries, and the user PIN's limit is 3")
+    ask("00B2010C00", "6A82", "a new card has no files")
+    ask("80E0A101052E04084001", "6982", "CREATE FILE asks for the device right")
+    ask("0082000010" + "00" * 16, "6984", "there was no challenge, and it is checked before the comparison")
+    ask(QUERY + "00", "6700", "five bytes are case 2, and VERIFY takes cases 1 and 3")
+    ask("01200001", "6E00", "the class is neither 00 nor 80")
+    ask("00C0000000", "6D00", "GET RESPONSE is not in the list")
+    ask("00A4040000", "6A86", "SELECT wants P 0000, and P is checked before the case")
+    ask("00A4000002A10100", "6700", "case 4 is a good frame, and no command takes it")
+
+
+def login(ask):
+    challenge = ask.challenge(16)
+    wrong = cryptogram(challenge)[:-1] + ("1" if cryptogram(challenge)[-1] == "0" else "0")
+    ask("0082000010" + wrong, "63CF", "127 tries are left, and x is the smaller of tries and 15")
+    ask("0082000010" + cryptogram(challenge), "6984", "the wrong login used the challenge up")
+    second = ask.challenge(16)
+    check(f"{ask.client.name}: another challenge than before", second != challenge, second)
+    ask(QUERY, "63C3", "a query costs no try")
+    ask("0082000010" + cryptogram(second), "6984", "every served command drops the challenge, a query too")
+    short = ask.challenge(4)
+    ask("0082000010" + cryptogram(short), "9000", "a challenge of 4 bytes is filled with 00")
+    ask("0082000010" + cryptogram(short), "6984", "a right login uses the challenge up too")
+
+
+def alarm_file(ask):
+    ask("80E0A101052E04084001", "9000", "the device right is held: cyclic, 4 records of 8, read user, write device")
+    ask("80E0A101052E04084001", "6986", "the short number 1 is taken")
+    for alarm in ALARMS:
+        ask("00E2000008" + alarm, "9000", "the device right is held; a full file lets the oldest go")
+    ask("00E200000700000006070200", "6700", "Lc is not the record length")
+    ask("00B0000001", "6981", "READ BINARY wants type 28, and asks for it before the right")
+    ask("00B2010400", "6982", "the current file is read with the user PIN, which was not shown")
+    ask(WRONG_PIN, "63C2", "one of three tries is gone")
+    ask(QUERY, "63C2", "a query costs none")
+    ask(RIGHT_PIN, "9000", "the right PIN restores all tries")
+    ask(QUERY, "9000", "the right is held")
+    for number, alarm in enumerate(reversed(ALARMS[1:]), 1):
+        ask(f"00B2{number:02X}0C00", alarm + "9000", "number 1 is the newest; of five alarms the last four are left")
+    ask("00B2050C00", "6A83", "the file holds four")
+    ask("00B2000C00", "6A86", "P1 is 1 to 255")
+    ask("00B2010C08", ALARMS[4] + "9000", "Le may be the record length")
+    if ask.client.name == "scriptor":
+        ask("00B2010C05", "6C08", "Le is neither 00 nor the record length")
+    else:
+        ask("00B2010C05", ALARMS[4] + "9000", "the card says 6C08, and OpenSC sends the command again with that Le")
+
+
+def longest(ask):
+    """The longest command and the longest reply that the framing knows pass through PC/SC."""
+    content = "".join(f"{byte:02X}" for byte in range(1, 256))
+    ask("80E0A10205280100" + "0000", "9000", "binary, 256 bytes, free to read and to write; the device is logged in")
+    ask("00D60000FF" + content, "9000", "255 bytes at offset 0")
+    ask("00B0000000", content + "00" + "9000", "Le 00 stands for 256, and a new file's bytes are 00")
+    ask("00B0000100", "6700", "256 bytes from offset 1 go past the end")
+    ask("00B0010000", "6A84", "the offset is not below the size")
+
+
+def blocked(ask):
+    ask(WRONG_PIN, "63C2", "a wrong PIN costs a try")
+    ask("00B2010C00", "6982", "and drops the right")
+    ask(WRONG_PIN, "63C1", "one is left")
+    ask(WRONG_PIN, "63C0", "none is left")
+    ask(RIGHT_PIN, "6983", "without tries the right PIN is refused too")
+    ask(QUERY, "6983", "no tries")
+    ask.reset()
+    ask(QUERY, "6983", "a reset gives no tries back")
+    ask("00B2010400", "6A82", "a reset leaves no file current")
+    ask("00B2010C00", "6982", "and the file stands")
+    ask("80E0A103052E04084001", "6982", "a reset drops the device right")
+
+
+def reload(ask):
+    ask("002C020106363534333231", "6982", "RELOAD asks for the admin right")
+    ask("00200000083837363534333231", "9000", "the admin PIN is right")
+    ask("002C020106363534333231", "9000", "a new user PIN, 654321, and full tries")
+    ask(QUERY, "63C3", "full tries, and the user right is not held")
+    ask(RIGHT_PIN, "63C2", "the old PIN is wrong now")
+    ask("0020000106363534333231", "9000", "the new one is right")
+    ask("00B2010C00", ALARMS[4] + "9000", "the newest alarm")
+
+
+def session(client):
+    ask = Asking(client)
+    for part in (before_login, login, alarm_file, longest, blocked, reload):
+        part(ask)
+
+
+def frames(ask):
+    """Frames that opensc-tool does not send, since it reads them itself; scriptor sends any bytes."""
+    ask("002000", "6700", "three bytes are no frame")
+    ask("05", "6700", "nor is one")
+    ask("00200001000000", "6700", "byte five 00 with more behind it is no frame")
+    ask("00B00000000100", "6700", "an extended Le is no frame")
+    ask("00D6000000000101", "6700", "nor is an extended Lc")
+    ask("0020000106313233", "6700", "Lc 06 and three bytes are no frame")
+    ask("00200001" + "FF" + "31" * 256, "6700", "VERIFY takes up to 16 bytes: a good frame of case 4, the longest")
+
+
+def rights_between_programs(reader):
+    """A right belongs to the card. Neither client resets it at its end; then pcscd cuts its power, when nobody is connected."""
+    first, second = Scriptor(), OpenscTool()
+    ask, other = Asking(first), Asking(second)
+    ask(RIGHT_PIN, "9000", "the right PIN")
+    other(QUERY, "9000", "another program has the right too, while the first is connected")
+    other(QUERY, "9000", "and still, when a third has come and gone")
+    first.end()
+    check("scriptor's end does not reset the card", reader.after_commands() == "power off", reader.said())
+    other(QUERY, "63C3", "power off is a reset")
+    other(RIGHT_PIN, "9000", "the right PIN")
+    check("opensc-tool's end does not reset the card", reader.after_commands() == "power off", reader.said())
+    other(QUERY, "63C3", "power off is a reset")
+    first = Scriptor()
+    other(RIGHT_PIN, "9000", "the right PIN")
+    other.reset()
+    other(QUERY, "63C3", "opensc-tool --reset is a reset")
+    first.end()
+
+
+def answer_to_reset(reader):
+    text = OpenscTool().run("-a").stdout.strip().replace(":", "").upper()
+    # TS direct; T0: TD1, 10 historical bytes; TD1, TD2: T=1; IFSC 254; BWI 4, CWI 5; the historical bytes; TCK
+    begin, history = "8A8131FE45", "807116" + "56" + b"LIMPET".hex().upper()
+    tck = 0
+    for byte in bytes.fromhex(begin + history):
+        tck ^= byte
+    check("the answer to reset", text == "3B" + begin + history + f"{tck:02X}", text)
+    with tempfile.TemporaryDirectory() as home:
+        # It looks unknown cards up in the net where its list is old; a new and empty one keeps it here.
+        environment = {"HOME": home, "PATH": "/usr/bin:/bin", "XDG_CACHE_HOME": home}
+        open(f"{home}/smartcard_list.txt", "w", encoding="utf-8").close()
+        said = subprocess.run(["ATR_analysis", text], capture_output=True, text=True, env=environment).stdout
+    check("ATR_analysis reads it", "(correct checksum)" in said and "IFSC: 254" in said, said)
+    scriptor = Scriptor()
+    scriptor.end()
+    check("T=1 is spoken", "\nUsing T=1 protocol\n" in scriptor.text, scriptor.text)
+    check("the reader said nothing of calls that were not served", "not served" not in reader.said(), reader.said())
+
+
+def main():
+    with card(*ISSUE_WORDS) as reader:
+        client = Scriptor()
+        session(client)
+        frames(Asking(client))
+        client.end()
+        answer_to_reset(reader)
+    with tempfile.NamedTemporaryFile("w", prefix="limpet-issue-") as issue:
+        issue.write("\t".join(["ISSUE", *ISSUE_WORDS]))
+        issue.flush()
+        with card(issue.name):
+            # Where nobody is connected between two calls pcscd cuts the card's power within a second.
+            connected = Scriptor()
+            session(OpenscTool())
+            connected.end()
+    with card(*ISSUE_WORDS) as reader:
+        rights_between_programs(reader)
+    end()
+
+
+main()

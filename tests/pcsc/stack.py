@@ -1,0 +1,195 @@
+"""What the tests of the reader share: the reader as a process, the two clients, programs at a terminal, and counting.
+
+pcscd with vpcd's driver has to be running (tests/reader starts it) for all but the reader itself.
+"""
+import contextlib
+import os
+import pty
+import re
+import select
+import signal
+import subprocess
+import sys
+import tempfile
+import time
+
+ROOT = os.path.dirname(os.path.dirname(os.path.dirname(os.path.abspath(__file__))))
+READER = os.path.join(ROOT, "target", "reader", "limpet-reader")
+UNSERVED = os.path.join(ROOT, "target", "reader", "unserved")  # the same over unserved.c
+SECONDS = 20  # how long anything may take before it counts as not coming
+
+KEY, ADMIN_PIN, USER_PIN = "000102030405060708090A0B0C0D0E0F", "87654321", "123456"
+ISSUE_WORDS = [KEY, "128", ADMIN_PIN, "5", USER_PIN, "3"]
+
+passed = failed = 0
+
+# So that what was started is ended where a test is stopped from outside.
+signal.signal(signal.SIGTERM, lambda *_: sys.exit(1))
+
+
+def check(name, good, seen=""):
+    """Counts a test. seen: what there was, to be printed where it is not good."""
+    global passed, failed
+    if good:
+        passed += 1
+    else:
+        failed += 1
+        print(f"FAILED: {name}{': ' if seen else ''}{seen}")
+    return good
+
+
+def end():
+    print(f"{passed} passed, {failed} failed")
+    sys.exit(failed > 0)
+
+
+def wait_until(true, what):
+    limit = time.monotonic() + SECONDS
+    while not true():
+        if time.monotonic() > limit:
+            raise TimeoutError(f"{what} did not happen in {SECONDS} s")
+        time.sleep(0.05)
+
+
+# ---- the reader
+
+
+class Reader:
+    """The program of reader/ with its standard error in a file."""
+
+    def __init__(self, words, program=READER):
+        self.log = tempfile.NamedTemporaryFile(mode="w+", prefix="limpet-reader-")
+        self.process = subprocess.Popen([program, *words], stderr=self.log, cwd=ROOT)
+
+    def said(self):
+        with open(self.log.name, encoding="utf-8") as file:
+            return file.read()
+
+    def after_commands(self):
+        """With --verbose: what happened to the card first after the last command."""
+
+        def events():
+            return re.findall("^- (.*)\n", self.said().rpartition("\n< ")[2], re.MULTILINE)
+
+        wait_until(events, "an end of the card's power")
+        return events()[0]
+
+    def end(self):
+        if self.process.poll() is None:
+            self.process.terminate()
+        self.process.wait(SECONDS)
+        self.log.close()
+
+
+def card_present():
+    listed = subprocess.run(["opensc-tool", "-l"], capture_output=True, text=True, timeout=SECONDS).stdout
+    return re.search(r"^0 +Yes ", listed, re.MULTILINE) is not None
+
+
+@contextlib.contextmanager
+def card(*words):
+    """A card in the virtual reader, seen by pcscd, until the block ends."""
+    reader = Reader(["--verbose", *words])
+    try:
+        wait_until(lambda: card_present() or reader.process.poll() is not None, "a card in the reader")
+        if reader.process.poll() is not None:
+            raise RuntimeError(reader.said())
+        yield reader
+    finally:
+        reader.end()
+        wait_until(lambda: not card_present(), "the card's removal")
+
+
+# ---- programs at a terminal, and the two clients
+
+
+class Terminal:
+    """A program at a terminal of its own, so that text holds what a person there sees, typed lines too."""
+
+    def __init__(self, *words):
+        self.text = ""
+        self.seen = 0  # text up to here has been waited for
+        self.pid, self.terminal = pty.fork()
+        if self.pid == 0:
+            os.chdir(ROOT)
+            os.execvp(words[0], words)
+
+    def more(self):
+        """Whether more came before the program ended."""
+        if not select.select([self.terminal], [], [], SECONDS)[0]:
+            raise TimeoutError(f"nothing more after: {self.text}")
+        try:
+            got = os.read(self.terminal, 65536)
+        except OSError:  # what Linux says where the other end is closed
+            got = b""
+        self.text += got.decode().replace("\r\n", "\n")
+        return got != b""
+
+    def wait_for(self, pattern):
+        """The match of the pattern in what came since the last one."""
+        while True:
+            found = re.compile(pattern, re.MULTILINE).search(self.text, self.seen)
+            if found:
+                self.seen = found.end()
+                return found
+            if not self.more():
+                raise RuntimeError(f"ended before {pattern}: {self.text}")
+
+    def type(self, line):
+        os.write(self.terminal, line.encode() + b"\n")
+
+    def end(self):
+        """Reads to the program's end. Returns its exit status."""
+        while self.more():
+            pass
+        os.close(self.terminal)
+        return os.waitstatus_to_exitcode(os.waitpid(self.pid, 0)[1])
+
+
+class Scriptor(Terminal):
+    """pcsc-tools' scriptor: one connection, and a line for each command."""
+
+    name = "scriptor"
+
+    def __init__(self):
+        super().__init__("scriptor")
+        self.wait_for("^Reading commands from STDIN\n")
+
+    def ask(self, line):
+        """Its answer up to the remark behind the colon. A long one takes several lines."""
+        self.type(line)
+        return self.wait_for(r"^< ([^:]*):.*\n")[1]
+
+    def send(self, command):
+        digits = "".join(self.ask(command).split())
+        return digits[:-4], digits[-4:]
+
+    def reset(self):
+        return self.ask("reset") == "OK"
+
+    def end(self):
+        self.type("exit")
+        return super().end()
+
+
+class OpenscTool:
+    """OpenSC's opensc-tool: a process and a connection for each command."""
+
+    name = "opensc-tool"
+
+    def run(self, *words):
+        # Without a driver's name it tries out many kinds of card, each with commands of its own.
+        words = ["opensc-tool", "-c", "default", *words]
+        return subprocess.run(words, capture_output=True, text=True, timeout=SECONDS)
+
+    def send(self, command):
+        out = self.run("-s", command).stdout
+        word = re.search(r"^Received \(SW1=0x(..), SW2=0x(..)\):?$", out, re.MULTILINE)
+        if word is None:
+            return "", out.strip()
+        # up to 16 bytes a line, each two digits and a space, and behind them the same as text, a character each
+        data = "".join(line[: len(line) // 4 * 3] for line in out[word.end() :].splitlines())
+        return "".join(data.split()), word[1] + word[2]
+
+    def reset(self):
+        return self.run("--reset").returncode == 0

@@ -1,0 +1,36 @@
+/* Stands in for the library: a card that serves nothing once it is in the reader, which the proved one cannot be brought to. */
+#include <stdlib.h>
+
+#include "limpetnook.h"
+
+size_t limpet_card_size(void)
+{
+    return getenv("OTHER_VERSION") == NULL ? LIMPET_CARD_SIZE : LIMPET_CARD_SIZE + 1;
+}
+
+uint8_t limpet_issue(struct limpet_card *card, uint8_t *area, size_t area_len,
+                     const uint8_t *key, size_t key_len, uint16_t device_limit,
+                     const uint8_t *admin_pin, size_t admin_pin_len, uint16_t admin_limit,
+                     const uint8_t *user_pin, size_t user_pin_len, uint16_t user_limit)
+{
+    (void)card, (void)area, (void)area_len, (void)key, (void)key_len, (void)device_limit;
+    (void)admin_pin, (void)admin_pin_len, (void)admin_limit, (void)user_pin, (void)user_pin_len, (void)user_limit;
+    return LIMPET_OK;
+}
+
+uint8_t limpet_command(struct limpet_card *card, uint8_t *area, size_t area_len,
+                       const uint8_t *command, size_t command_len, const uint8_t *random, size_t random_len,
+                       uint8_t *reply, size_t reply_len, size_t *reply_count)
+{
+    (void)card, (void)area, (void)area_len, (void)command, (void)command_len, (void)random, (void)random_len;
+    (void)reply, (void)reply_len;
+    *reply_count = 0;
+    return LIMPET_UNSOUND;
+}
+
+uint8_t limpet_reset(struct limpet_card *card)
+{
+    static int resets = 0;
+    (void)card;
+    return resets++ == 0 ? LIMPET_OK : LIMPET_UNSOUND; /* the first is that of putting it in */
+}
