@@ -22,10 +22,11 @@ use Rattle.files.proofs.Extents.{Within, within-apart, file-set, file-other, us
 use Rattle.files.proofs.Lists.{record-fits, next-fits, appended-size}
 use Rattle.files.proofs.Served.{binary-fits, updates-record}
 use Rattle.files.proofs.Kept.{filed}
+use Rattle.rules.specs.declared.Tries.{Tries}
 use Rattle.rules.specs.declared.Card.{Card}
 use Rattle.rules.specs.declared.Ins.{Ins}
 use Rattle.rules.specs.declared.Ins.the-variants.{Select, ReadBinary, UpdateBinary, ReadRecord, UpdateRecord, AppendRecord, Verify, Authenticate, ChangePin, ReloadPin, CreateFile, GetChallenge, Unlisted}
-use Rattle.rules.specs.State.{Which, device, admin, user, withValue}
+use Rattle.rules.specs.State.{Which, device, admin, user, withValue, withLogin}
 use Rattle.rules.specs.Sound.{sound}
 use Rattle.rules.specs.Frame.{Command, lc}
 use Rattle.rules.specs.Effect.{Effect, answers, becomes}
@@ -56,6 +57,18 @@ pub record Treats (c : Card) (place : ℕ) (i : Ins) (k : Command) (e : Effect) 
   pub size-is : size (fileOf (e .card) place) ≡ size (fileOf c place)
   pub kept : Kept c place e ⊎ By c place (writesTo i c k) (λ f. f .write)
   pub hidden : Apart (start (c .directory) place) (size (fileOf c place)) (e .from) (e .shows) ⊎ By c place (readsFrom i c k) (λ f. f .read)
+
+-- what changes a credential leaves the files
+module _ (c : Card) where
+  pub value-files : (w : Which) (v : List ℕ) → withValue w c v .directory ≡ c .directory
+  value-files device v = refl
+  value-files admin v = refl
+  value-files user v = refl
+
+  pub login-files : (w : Which) (t : Tries) (held : Bool) → withLogin w c t held .directory ≡ c .directory
+  login-files device t held = refl
+  login-files admin t held = refl
+  login-files user t held = refl
 
 module _ (c : Card) (h : sound c ≡ true) (place : ℕ) (some : 1 ≤ place) (low : place ≤ c .directory .count) (k : Command) where
   abbrev fs : List File
@@ -106,16 +119,10 @@ module _ (c : Card) (h : sound c ≡ true) (place : ℕ) (some : 1 ≤ place) (l
     none : (i : Ins) (sw : ℕ) (x : Card) → x .directory ≡ c .directory → Treats c place i k (answers sw x)
     none i sw x q = treats-none i (answers sw x) q refl refl refl refl
 
-    value-files : (w : Which) (v : List ℕ) → withValue w c v .directory ≡ c .directory
-    value-files device v = refl
-    value-files admin v = refl
-    value-files user v = refl
-
     compare-treats : (i : Ins) (w : Which) (agrees : Bool) → Treats c place i k (compared w c agrees)
     unfolding compared
-    compare-treats i device agrees = split (Treats c place i k) agrees (λ e. none i _ _ refl) (λ e. none i _ _ refl)
-    compare-treats i admin agrees = split (Treats c place i k) agrees (λ e. none i _ _ refl) (λ e. none i _ _ refl)
-    compare-treats i user agrees = split (Treats c place i k) agrees (λ e. none i _ _ refl) (λ e. none i _ _ refl)
+    compare-treats i w agrees =
+        split (Treats c place i k) agrees (λ e. none i _ _ (login-files c w _ true)) (λ e. none i _ _ (login-files c w _ false))
 
     -- the file that a binary command addresses, and that of a record command
     abbrev b : ℕ
@@ -191,7 +198,7 @@ module _ (c : Card) (h : sound c ≡ true) (place : ℕ) (some : 1 ≤ place) (l
         }
     row Verify p = split (Treats c place Verify k) (eqb (k .case) 1) (λ e. none Verify _ _ refl) (λ e. compare-treats Verify (pinNamed k) _)
     row Authenticate p = compare-treats Authenticate device _
-    row ChangePin p = none ChangePin _ _ (value-files (pinNamed k) (k .given))
+    row ChangePin p = none ChangePin _ _ (value-files c (pinNamed k) (k .given))
     row ReloadPin p = none ReloadPin _ _ refl
     row CreateFile p =
         let n = d .count in

@@ -40,9 +40,9 @@ use Rattle.demands.specs.Ledger.{Event, sent, resets, isHeld, Ledger, se
 use Rattle.demands.specs.Run.{World, world, left, called, Served, after}
 use Rattle.demands.specs.Files.{writesTo, readsFrom, Opens, Written, Read, Writes, Stays, Altered, Alike, AlikeBut, SameBut, Shown, Made, Makes, Created}
 use Rattle.demands.proofs.Soundness.{leaves, step-sound}
-use Rattle.demands.proofs.Live.{Live, after-live, command-is, reset-is}
+use Rattle.demands.proofs.Live.{Live, after-live, command-served, command-is, reset-is}
 use Rattle.demands.proofs.Follows.{Agree, follows}
-use Rattle.demands.proofs.Files.{By, Kept, Treats, treats}
+use Rattle.demands.proofs.Files.{By, Kept, Treats, value-files, login-files, treats}
 use Rattle.demands.proofs.Alike.{alike-splice, alike-part}
 
 -- a set bit's right is held
@@ -134,9 +134,9 @@ module _ (c : Card) (area : List ℕ) (live : Live (world c area)) (l : Ledger) 
   -- the next command, on an area that differs in the file's bytes alone
   call-shows : (cmd random reply other : List ℕ) (place : ℕ) → isPlace (c .directory) place ≡ true → AlikeBut c place area other
       → SameBut place (command c area cmd random reply) (command c other cmd random reply) ⊎ Read c l cmd place
-  unfolding command
   call-shows cmd random reply other place here alike =
-      rw (eq-eqb (length area) areaSize (live .size-is), eq-eqb (length other) areaSize (sym (alike .length-is) ∙ live .size-is), live .sound-card)
+      let there : Live (world c other) = record { sound-card = live .sound-card; size-is = sym (alike .length-is) ∙ live .size-is } in
+      rw (command-served c area live cmd random reply, command-served c other there cmd random reply)
       (go (leb replySize (length reply)) (eqb (length random) randomSize))
     where
       go : (a b : Bool)
@@ -165,16 +165,13 @@ module _ (c : Card) (k : Command) (random : List ℕ) where
       (e .card .directory .count ≡ c .directory .count)
       ⊎ ((i ≡ CreateFile) × (marked (c .session .rights .device) ≡ true) × (e .card .directory .count ≡ c .directory .count + 1))
 
+  same-count : {d : Directory} → d ≡ c .directory → d .count ≡ c .directory .count
+  same-count q = ap (λ (x : Directory). x .count) q
+
   compare-counts : (i : Ins) (w : Which) (agrees : Bool) → Counts i (compared w c agrees)
   unfolding compared
-  compare-counts i device agrees = split (Counts i) agrees (λ e. inl refl) (λ e. inl refl)
-  compare-counts i admin agrees = split (Counts i) agrees (λ e. inl refl) (λ e. inl refl)
-  compare-counts i user agrees = split (Counts i) agrees (λ e. inl refl) (λ e. inl refl)
-
-  value-counts : (w : Which) (v : List ℕ) → withValue w c v .directory .count ≡ c .directory .count
-  value-counts device v = refl
-  value-counts admin v = refl
-  value-counts user v = refl
+  compare-counts i w agrees =
+      split (Counts i) agrees (λ e. inl (same-count (login-files c w _ true))) (λ e. inl (same-count (login-files c w _ false)))
 
   count-row : (i : Ins) → Passed (checks i c k) → Counts i (effectOf i c k random)
   unfolding checks effectOf createChecks created
@@ -186,7 +183,7 @@ module _ (c : Card) (k : Command) (random : List ℕ) where
   count-row AppendRecord p = inl refl
   count-row Verify p = split (Counts Verify) (eqb (k .case) 1) (λ e. inl refl) (λ e. compare-counts Verify (pinNamed k) _)
   count-row Authenticate p = compare-counts Authenticate device _
-  count-row ChangePin p = inl (value-counts (pinNamed k) (k .given))
+  count-row ChangePin p = inl (same-count (value-files c (pinNamed k) (k .given)))
   count-row ReloadPin p = inl refl
   count-row CreateFile p = inr (refl, holds (marked (c .session .rights .device)) 0x6982 refl (p .1 .1 .0), refl)
   count-row GetChallenge p = inl refl

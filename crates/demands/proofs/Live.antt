@@ -48,13 +48,19 @@ unfolding after
 after-live o area es h = run-live _ es (record { sound-card = issue-served o area h; size-is = issue-size o area h })
 
 module _ (c : Card) (area : List ℕ) (h : Live (world c area)) where
+  -- neither 2 nor 4 can occur
+  pub command-served : (cmd random reply : List ℕ)
+      → command c area cmd random reply
+      ≡ cond (leb replySize (length reply))
+      (cond (eqb (length random) randomSize) (served (step c area cmd random) reply) (refused 3 c area reply)) (refused 1 c area reply)
+  unfolding command
+  command-served cmd random reply = rw (eq-eqb (length area) areaSize (h .size-is), h .sound-card)
+
   -- a command is its step, or a refusal for its own arguments that leaves all
   pub command-is : (cmd random reply : List ℕ)
       → left (command c area cmd random reply)
       ≡ cond (servable random reply) (world (step c area cmd random .card) (step c area cmd random .area)) (world c area)
-  unfolding command
-  command-is cmd random reply =
-      rw (eq-eqb (length area) areaSize (h .size-is), h .sound-card) (go (leb replySize (length reply)) (eqb (length random) randomSize))
+  command-is cmd random reply = rw (command-served cmd random reply) (go (leb replySize (length reply)) (eqb (length random) randomSize))
     where
       go : (a b : Bool)
           → left (cond a (cond b (served (step c area cmd random) reply) (refused 3 c area reply)) (refused 1 c area reply))
