@@ -4,11 +4,27 @@ built=target/bench
 reader=target/reader/limpet-reader
 strict=(-Wall -Wextra -pedantic -Werror -Iinclude)
 
+# The programs and libraries here are for x86-64: the compilers for it, and the Debian packages with them and with what watches
+# such a program at work. x86 PROGRAM ARGUMENT... runs one. On another processor it is emulated, and nothing can watch it.
+if [ "$(uname -m)" = x86_64 ]; then
+    emulated=no
+    cc=gcc cxx=g++
+    for_c=(gcc libc6-dev) for_cxx=(g++) to_watch=(valgrind)
+    x86() { "$@"; }
+else
+    emulated=yes
+    cc=x86_64-linux-gnu-gcc cxx=x86_64-linux-gnu-g++
+    for_c=(gcc-x86-64-linux-gnu libc6-dev-amd64-cross) for_cxx=(g++-x86-64-linux-gnu) to_watch=()
+    x86() { bench/x86 "$@"; }
+fi
+
 # has PACKAGE: whether what is used here of that Debian package is there.
 has() {
     case $1 in
     gcc | g++ | openssl | pcscd | python3 | valgrind) command -v "$1" ;;
+    gcc-x86-64-linux-gnu | g++-x86-64-linux-gnu) command -v "x86_64-linux-gnu-${1%%-*}" ;;
     libc6-dev) gcc -E -include stdio.h -x c /dev/null ;;
+    libc6-dev-amd64-cross) x86_64-linux-gnu-gcc -E -include stdio.h -x c /dev/null ;;
     libssl-dev) gcc -E -include openssl/evp.h -x c /dev/null ;;
     opensc) command -v opensc-tool ;;
     pcsc-tools) command -v scriptor && command -v ATR_analysis ;;
@@ -21,14 +37,25 @@ has() {
 need() {
     local package missing=()
     for package; do
-        has "$package" || missing+=("$package")
+        has "$package" || [[ " ${missing[*]} " == *" $package "* ]] || missing+=("$package")
     done
     if ((${#missing[@]} > 0)); then
         echo "installing ${missing[*]}" >&2
         export DEBIAN_FRONTEND=noninteractive
-        apt-get update -qq >&2
-        apt-get install -y -qq --no-install-recommends "${missing[@]}" >&2
+        apt-get update -qq >&2 || true
+        if ! apt-get install -y -qq --no-install-recommends "${missing[@]}" >&2; then
+            echo "these Debian packages are needed, and could not be installed: ${missing[*]}" >&2
+            return 1
+        fi
     fi
+}
+
+# logged LOG COMMAND...: what the command prints goes to LOG; what it says of a crate that is proved is shown too, as it comes.
+# With pipefail, as the scripts here have it, the exit status is the command's.
+logged() {
+    local log=$1
+    shift
+    "$@" 2>&1 </dev/null | tee "$log" | sed -un '/^rt: [a-z_]* proved/p' >&2
 }
 
 # library_is_old CRATE: has `library` name the crate's library for C, and tells whether there is none, or one older than the code of
@@ -52,8 +79,9 @@ build_library() {
 # The program of reader/, over $library.
 build_reader() {
     if [ ! -e $reader ] || [ -n "$(find reader include "$library" -type f -newer $reader -print -quit)" ]; then
+        need "${for_c[@]}" || return
         mkdir -p "$(dirname $reader)"
-        gcc -std=c11 -O2 "${strict[@]}" reader/*.c "$library" -o $reader
+        $cc -std=c11 -O2 "${strict[@]}" reader/*.c "$library" -o $reader
     fi
 }
 
@@ -75,7 +103,7 @@ build_bench() {
     fi
     mkdir -p "$built"
     rm -f "$built/$name" # so that what is run is what was built now
-    gcc -std=c11 "$@" "${strict[@]}" "${sources[@]/#/bench/}" "$library" -o "$built/$name"
+    $cc -std=c11 "$@" "${strict[@]}" "${sources[@]/#/bench/}" "$library" -o "$built/$name"
 }
 
 # count_instructions: a line for each call of limpet_command that $built/verifies makes: what it prints of the call, and how many
@@ -106,6 +134,18 @@ try() {
     else
         failed=$((failed + 1))
         echo "FAILED: $name"
+    fi
+}
+
+# left_out NAME: says so of a test that needs what watches a program at work.
+left_out() {
+    echo "left out, since nothing on $(uname -m) watches x86-64 code: $1"
+}
+
+# For benchmarks, before their figures.
+tell_emulated() {
+    if [ $emulated = yes ]; then
+        echo "on $(uname -m) the programs for x86-64 are emulated: these figures are the emulator's, and say nothing of a processor"
     fi
 }
 

@@ -6,17 +6,21 @@
  * each output is the next input, so that no call can begin before the one
  * before it has ended. The rounds alternate between them, so that a slow moment
  * of the machine does not meet only one, and the best round of each counts.
+ *
+ * With WITH_OPENSSL defined, openssl's is one of them.
  */
 #define _POSIX_C_SOURCE 200809L /* clock_gettime */
-#define OPENSSL_SUPPRESS_DEPRECATED /* AES_encrypt: the plain call, with no layers over it */
 
 #include <stdio.h>
 #include <stdlib.h>
 #include <string.h>
 #include <time.h>
 
+#ifdef WITH_OPENSSL
+#define OPENSSL_SUPPRESS_DEPRECATED /* AES_encrypt: the plain call, with no layers over it */
 #include <openssl/aes.h>
 #include <openssl/crypto.h>
+#endif
 
 #include "limpetnook.h"
 
@@ -33,6 +37,7 @@ static void ours(const uint8_t *key, const uint8_t *block, uint8_t *out)
         abort();
 }
 
+#ifdef WITH_OPENSSL
 static void openssls(const uint8_t *key, const uint8_t *block, uint8_t *out)
 {
     AES_KEY expanded;
@@ -40,6 +45,7 @@ static void openssls(const uint8_t *key, const uint8_t *block, uint8_t *out)
         abort();
     AES_encrypt(block, out, &expanded);
 }
+#endif
 
 static struct contender {
     const char *name;
@@ -50,7 +56,9 @@ static struct contender {
     { "ours (limpet_aes128)", ours, 0, { 0 } },
     { "C by bytes, gcc -O2", aes_bytes_O2, 0, { 0 } },
     { "C by bytes, gcc -O3", aes_bytes_O3, 0, { 0 } },
+#ifdef WITH_OPENSSL
     { "openssl AES_set_encrypt_key and AES_encrypt", openssls, 0, { 0 } },
+#endif
 };
 
 enum { CONTENDERS = sizeof contenders / sizeof contenders[0] };
@@ -119,7 +127,9 @@ int main(void)
         }
     expect_same_last_block("at the end of the chain");
 
+#ifdef WITH_OPENSSL
     printf("%s\n", OpenSSL_version(OPENSSL_VERSION));
+#endif
     printf("best of %d rounds of %d blocks each:\n", ROUNDS, 2 * PAIRS_IN_ROUND);
     printf("%10s  %11s\n", "ns a block", "ours / this");
     for (int i = 0; i < CONTENDERS; i++)

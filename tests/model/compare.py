@@ -2,8 +2,8 @@
 
     python3 tests/model/compare.py [--save FILE] PROGRAM SEED LINES [SEED LINES]...
 
-SEED is a number, or FIRST-LAST for all seeds from one to the other. PROGRAM is the path of the program; one that ends
-in .py is run by this Python. A seed is one test. For a difference the shortest script found that still shows one is
+SEED is a number, or FIRST-LAST for all seeds from one to the other. PROGRAM is the path of the program, for x86-64; one that
+ends in .py is run by this Python. A seed is one test. For a difference the shortest script found that still shows one is
 printed, and with --save written to FILE as it is. The exit status is 0 only when all agree.
 """
 
@@ -15,6 +15,7 @@ import time
 import generate
 import script
 
+X86 = os.path.join(os.path.dirname(os.path.abspath(__file__)), "..", "..", "bench", "x86")
 SECONDS_TO_RUN = 120
 SECONDS_TO_SHRINK = 90
 # Differences mostly have one cause, so the first few are shrunk and the rest only named.
@@ -24,7 +25,7 @@ MOST_LINES_SHOWN = 300
 
 def run_program(program, text):
     """What the program writes, and what is wrong with how it ended (None when nothing is)."""
-    call = [sys.executable, program] if program.endswith(".py") else [program]
+    call = [sys.executable, program] if program.endswith(".py") else [X86, program]
     try:
         done = subprocess.run(call, input=text, stdout=subprocess.PIPE, timeout=SECONDS_TO_RUN)
     except subprocess.TimeoutExpired as late:

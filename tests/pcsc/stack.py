@@ -14,6 +14,7 @@ import tempfile
 import time
 
 ROOT = os.path.dirname(os.path.dirname(os.path.dirname(os.path.abspath(__file__))))
+X86 = os.path.join(ROOT, "bench", "x86")  # runs the reader's program on this machine
 READER = os.path.join(ROOT, "target", "reader", "limpet-reader")
 UNSERVED = os.path.join(ROOT, "target", "reader", "unserved")  # the same over unserved.c
 SECONDS = 20  # how long anything may take before it counts as not coming
@@ -59,7 +60,7 @@ class Reader:
 
     def __init__(self, words, program=READER):
         self.log = tempfile.NamedTemporaryFile(mode="w+", prefix="limpet-reader-")
-        self.process = subprocess.Popen([program, *words], stderr=self.log, cwd=ROOT)
+        self.process = subprocess.Popen([X86, program, *words], stderr=self.log, cwd=ROOT)
 
     def said(self):
         with open(self.log.name, encoding="utf-8") as file:

@@ -6,7 +6,7 @@ import socket
 import subprocess
 import tempfile
 
-from stack import ISSUE_WORDS, READER, ROOT, SECONDS, UNSERVED, Reader, check, end, wait_until
+from stack import ISSUE_WORDS, READER, ROOT, SECONDS, UNSERVED, X86, Reader, check, end, wait_until
 
 OFF, ON, RESET, GET_ATR = (bytes([code]) for code in (0, 1, 2, 4))
 QUERY, RIGHT_PIN = bytes.fromhex("00200001"), bytes.fromhex("0020000106313233343536")
@@ -16,7 +16,7 @@ QUERY, RIGHT_PIN = bytes.fromhex("00200001"), bytes.fromhex("0020000106313233343
 
 
 def run(*words):
-    ended = subprocess.run([READER, *words], capture_output=True, text=True, cwd=ROOT, timeout=SECONDS)
+    ended = subprocess.run([X86, READER, *words], capture_output=True, text=True, cwd=ROOT, timeout=SECONDS)
     return ended.returncode, ended.stdout, ended.stderr
 
 
@@ -173,7 +173,8 @@ def unserved():
         said = "limpet-reader: {} not served, outcome 4: the card's state is not sound\n"
         expected = said.format("command") + said.format("reset") + said.format("command")
         check("and it says so", reader.said().endswith(expected), reader.said())
-    ended = subprocess.run([UNSERVED, *ISSUE_WORDS], capture_output=True, text=True, env={**os.environ, "OTHER_VERSION": "1"})
+    environment = {**os.environ, "OTHER_VERSION": "1"}
+    ended = subprocess.run([X86, UNSERVED, *ISSUE_WORDS], capture_output=True, text=True, env=environment)
     check("a library of another version", ended.returncode == 1 and "different versions" in ended.stderr, ended)
 
 
