@@ -88,13 +88,14 @@ build_reader() {
 # build_bench NAME FLAG...: builds $built/NAME, one of the programs in C that drive a card in place, over $library. What follows a
 # hyphen in the name tells builds of one program apart; NAME-faulty has bench/faults.c in between.
 build_bench() {
-    local name=$1 sources
+    local name=$1 sources libraries=("$library")
     shift
     case ${name%%-*} in
     inplace) sources=(inplace.c lines.c watched.c layout.c lent.c) ;;
     refusals) sources=(refusals.c cards.c watched.c layout.c lent.c) ;;
     verifies) sources=(verifies.c) ;;
-    calls) sources=(calls.c lines.c) ;;
+    calls) sources=(calls.c play.c lines.c) ;;
+    stack) sources=(stack.c play.c lines.c) libraries+=(target/staticlib/libcipher.a) ;;
     *) echo "there is no bench program $name" >&2 && return 1 ;;
     esac
     if [[ $name == *-faulty ]]; then
@@ -103,7 +104,7 @@ build_bench() {
     fi
     mkdir -p "$built"
     rm -f "$built/$name" # so that what is run is what was built now
-    $cc -std=c11 "$@" "${strict[@]}" "${sources[@]/#/bench/}" "$library" -o "$built/$name"
+    $cc -std=c11 "$@" "${strict[@]}" "${sources[@]/#/bench/}" "${libraries[@]}" -o "$built/$name"
 }
 
 # count_instructions: a line for each call of limpet_command that $built/verifies makes: what it prints of the call, and how many

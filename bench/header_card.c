@@ -18,7 +18,7 @@ int main(void)
     uint8_t reply[LIMPET_REPLY_SIZE];
     size_t count = 0;
 
-    if (limpet_card_size() != LIMPET_CARD_SIZE)
+    if (limpet_version() != LIMPET_VERSION || limpet_card_size() != LIMPET_CARD_SIZE)
         return 1;
     if (limpet_reset(card) != LIMPET_UNSOUND)
         return 2;

@@ -18,17 +18,19 @@
 
 static unsigned passed, failed;
 static bool is_short;
+static unsigned long one_in = 1; /* of so many spoiled cards one is tried */
 
 static void usage(FILE *to)
 {
-    fputs("usage: refusals [--exact] [--short]\n"
+    fputs("usage: refusals [--exact] [--short] [--one-in N]\n"
           "\n"
           "Tries calls on a card that must be refused, and cards that are not sound.\n"
           "The exit status is 1 where an outcome or a byte was not as it must be.\n"
           "\n"
-          "  --exact   no guard bytes: each buffer is a heap block of its own and of its\n"
-          "            exact size, for valgrind or the address sanitizer to watch\n"
-          "  --short   fewer cases, for a run under valgrind\n", to);
+          "  --exact     no guard bytes: each buffer is a heap block of its own and of its\n"
+          "              exact size, for valgrind or the address sanitizer to watch\n"
+          "  --short     fewer cases, for a run under valgrind\n"
+          "  --one-in N  of the spoiled cards one in N, for a run under an emulator\n", to);
 }
 
 /* ------------------------------------------------------------------ groups */
@@ -355,9 +357,11 @@ static bool is_one_bit(unsigned difference)
 /* Every other value of every byte; where a single bit differs, all the commands. */
 static void spoil_bytes(const struct pattern *p, struct tally *all, struct tally *by_sort, struct tally *by_field)
 {
+    static unsigned long turn;
+
     for (size_t place = 0; place < LIMPET_CARD_SIZE; place++)
         for (unsigned difference = 1; difference < 256; difference++) {
-            if (is_short && !is_one_bit(difference))
+            if ((is_short && !is_one_bit(difference)) || turn++ % one_in != 0)
                 continue;
             struct pattern spoiled = *p; /* for each anew: gcc 12.2 from -O1 on loses a store that sets the byte back */
             spoiled.card[place] ^= (uint8_t)difference;
@@ -425,7 +429,7 @@ static void cards_with_several(void)
     struct group g = begin("cards with several bytes spoiled");
     struct tally t = { 0 };
 
-    for (unsigned i = 0; i < (is_short ? 500u : 50000u); i++) {
+    for (unsigned i = 0; i < (is_short ? 500u : 50000u / one_in); i++) {
         struct pattern spoiled = patterns[random_below(SORTS)];
         spoil_several(spoiled.card, patterns[random_below(SORTS)].card);
         call_number = i;
@@ -443,7 +447,7 @@ static void cards_of_any_bytes(void)
     struct pattern spoiled = *in_use();
     struct tally t = { 0 };
 
-    for (unsigned i = 0; i < (is_short ? 100u : 10000u); i++) {
+    for (unsigned i = 0; i < (is_short ? 100u : 10000u / one_in); i++) {
         for (size_t place = 0; place < LIMPET_CARD_SIZE; place++)
             spoiled.card[place] = (uint8_t)random_below(256);
         call_number = i;
@@ -479,7 +483,12 @@ static bool read_arguments(int count, char **arguments)
             lent_exactly = true;
         else if (strcmp(arguments[i], "--short") == 0)
             is_short = true;
-        else
+        else if (strcmp(arguments[i], "--one-in") == 0 && i + 1 < count) {
+            char *rest;
+            one_in = strtoul(arguments[++i], &rest, 10);
+            if (*rest != '\0' || one_in == 0 || one_in > 10000)
+                return false;
+        } else
             return false;
     return true;
 }

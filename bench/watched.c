@@ -29,9 +29,9 @@ void wrong(const char *format, ...)
 
 void check_version(void)
 {
-    if (limpet_card_size() != LIMPET_CARD_SIZE) {
-        fprintf(stderr, "the library's card takes %zu bytes and the header's %d\n",
-                limpet_card_size(), LIMPET_CARD_SIZE);
+    if (limpet_version() != LIMPET_VERSION || limpet_card_size() != LIMPET_CARD_SIZE) {
+        fprintf(stderr, "the library is of version %u and its card takes %zu bytes; the header has %d and %d\n",
+                (unsigned)limpet_version(), limpet_card_size(), LIMPET_VERSION, LIMPET_CARD_SIZE);
         exit(2);
     }
 }

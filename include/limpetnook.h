@@ -1,13 +1,31 @@
 /*
  * Limpetnook for callers in C and C++.
  *
- * The functions are proved: what is said of them below holds for every call
- * that keeps the caller's side, which no compiler checks and no function can
- * test. README.md says what the proofs rest on.
+ * The functions are proved. What is said of them below holds for every call
+ * that keeps the caller's side. No compiler checks that side and no function
+ * can test it. docs/TRUST.md says what the proofs rest on.
  *
  * No function keeps anything between calls or allocates memory. Calls may run
  * at the same time, from several threads or from an interrupt, as long as
  * nothing else writes a buffer of a running call or reads its output.
+ *
+ * What to link:
+ *
+ *   limpet_aes128                       libcipher.a   rt staticlib cipher
+ *   all else that is declared here      libcard.a     rt staticlib card
+ *
+ * Both go into target/staticlib, and both may be linked into one program. They
+ * are for x86-64 with the System V calling convention (Linux), on whichever
+ * machine they are built; the kit makes them for no other processor.
+ *
+ * What they take at most, measured and not proved (bench/footprint, which the
+ * tests run):
+ *
+ *                 code    constants   stack of a call      C functions needed
+ *   libcard.a     42000   1000        LIMPET_CARD_STACK    memcpy, memset
+ *   libcipher.a   1420    256         LIMPET_AES128_STACK  none
+ *
+ * A program without a C library has to bring memcpy and memset along.
  */
 #ifndef LIMPETNOOK_H
 #define LIMPETNOOK_H
@@ -19,7 +37,22 @@
 extern "C" {
 #endif
 
-/* Outcomes. The numbers are those of the scope paper. */
+/*
+ * The version of the card that this header describes. It rises by one with each
+ * change of what the card does, which the size of a card need not show. Compare
+ * it once, at the start:
+ *
+ *   if (limpet_version() != LIMPET_VERSION) ... header and library do not match
+ */
+#define LIMPET_VERSION 1
+
+uint32_t limpet_version(void);
+
+/* The bytes of stack that are enough for a call: on a card, and limpet_aes128. */
+#define LIMPET_CARD_STACK 4096
+#define LIMPET_AES128_STACK 512
+
+/* Outcomes. The numbers are fixed: scripts print them too. */
 #define LIMPET_OK 0          /* served */
 #define LIMPET_SHORT_REPLY 1 /* the reply buffer is under 258 bytes */
 #define LIMPET_BAD_AREA 2    /* the data area is not 4,096 bytes long */
@@ -53,8 +86,8 @@ extern "C" {
  * The caller's side:
  *   - key_len bytes at key and block_len bytes at block can be read, and
  *     out_len bytes at out can be read and written, during the whole call.
- *     That counts for a wrong length too: it is refused, but it is still to
- *     be the true size of the buffer, or less.
+ *     A number that will be refused must not be more than the buffer holds
+ *     either.
  *   - A pointer may be NULL, or point nowhere, only where its number is 0.
  *   - out overlaps neither key nor block. In particular a block cannot be
  *     enciphered in place. key and block may overlap, or be the same buffer.
@@ -71,22 +104,20 @@ uint8_t limpet_aes128(const uint8_t *key, size_t key_len,
  * for C to read or write; the contents of its files are in the data area. It
  * holds the key and the PINs as they are: keep it where nobody else can read.
  *
- * The caller keeps the card and its area, 4,096 bytes, and lends both to each
- * call, always the same two together: the call changes them in place. A card
- * may be copied byte by byte while no call runs, together with its area.
+ * The caller keeps the card and its area of 4,096 bytes, and lends both to each
+ * call, always the same two together. The call changes them in place. While no
+ * call runs a card may be copied byte by byte, together with its area.
  */
 struct limpet_card;
 
 /*
- * The bytes that a card takes. They have to be aligned to nothing, and none of
- * them lies between the fields. A buffer of malloc(limpet_card_size()) will do,
- * and so will
+ * The bytes that a card takes. They need no alignment, and there is no padding
+ * among them. A buffer of malloc(limpet_card_size()) will do, and so will
  *
  *   static uint8_t kept[LIMPET_CARD_SIZE];
  *   struct limpet_card *card = (struct limpet_card *)kept;
  *
- * with a test at the start that limpet_card_size() is LIMPET_CARD_SIZE: then
- * header and library are of one version.
+ * once limpet_version() was seen to be LIMPET_VERSION.
  */
 #define LIMPET_CARD_SIZE 222
 
@@ -122,12 +153,11 @@ uint8_t limpet_issue(struct limpet_card *card,
  * nobody can foresee; a challenge is made of them. reply is at least
  * LIMPET_REPLY_SIZE bytes, whatever the command.
  *
- *   LIMPET_OK           the command was served, which a status word that
- *                       refuses is too. *reply_count is the number of reply
- *                       bytes that are the answer, 2 to 258; the status word
- *                       is the last two of them, high byte first. The rest of
- *                       the reply is as it was. Card and area are as the
- *                       command leaves them.
+ *   LIMPET_OK           the command was processed; a status word that refuses
+ *                       counts too. The first *reply_count bytes of the reply,
+ *                       2 to 258, are the answer. Its last two are the status
+ *                       word, high byte first. The rest of the reply is as it
+ *                       was. Card and area are as the command leaves them.
  *   LIMPET_SHORT_REPLY  reply_len is under LIMPET_REPLY_SIZE.
  *   LIMPET_BAD_AREA     area_len is not LIMPET_AREA_SIZE.
  *   LIMPET_BAD_RANDOM   random_len is not LIMPET_RANDOM_SIZE.
@@ -160,17 +190,17 @@ uint8_t limpet_reset(struct limpet_card *card);
  *   - card points to limpet_card_size() bytes that can be read and written,
  *     and is never NULL. reply_count points to a size_t, aligned as such, and
  *     is never NULL; what it holds before does not matter.
- *   - Each other buffer is a pointer and the number of bytes there, or less:
- *     they can be read, and those of area and reply written, during the whole
- *     call, for a length that is refused too. A pointer may be NULL, or point
- *     nowhere, only where its number is 0. No such buffer has to be aligned.
+ *   - Each other buffer is a pointer and a number of bytes. So many bytes can
+ *     be read there, and those of area and reply written too, during the whole
+ *     call. That counts for a number that will be refused as well. A pointer
+ *     may be NULL, or point nowhere, only where its number is 0. No such
+ *     buffer has to be aligned.
  *   - card, area, reply and reply_count overlap neither each other nor any
  *     other buffer of the call. Those that are only read may overlap.
  *
- * The card's bytes may be any. Those that are no state of a card are refused
- * with LIMPET_UNSOUND; any others are taken as the card that they are, also
- * where no call ever left such a one. No byte before or after a buffer is
- * written.
+ * The card's bytes may be any. Bytes that are no state of a card are refused
+ * with LIMPET_UNSOUND. Bytes that are one are served as that card, even where
+ * no call ever left them so. No byte before or after a buffer is written.
  */
 
 #ifdef __cplusplus

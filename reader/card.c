@@ -11,7 +11,7 @@ static struct limpet_card *card(void)
 
 bool card_fits(void)
 {
-    return limpet_card_size() == LIMPET_CARD_SIZE;
+    return limpet_version() == LIMPET_VERSION && limpet_card_size() == LIMPET_CARD_SIZE;
 }
 
 uint8_t card_issue(const struct issue *v)

@@ -3,9 +3,14 @@
 
 #include "limpetnook.h"
 
+uint32_t limpet_version(void)
+{
+    return getenv("OTHER_VERSION") == NULL ? LIMPET_VERSION : LIMPET_VERSION + 1;
+}
+
 size_t limpet_card_size(void)
 {
-    return getenv("OTHER_VERSION") == NULL ? LIMPET_CARD_SIZE : LIMPET_CARD_SIZE + 1;
+    return LIMPET_CARD_SIZE;
 }
 
 uint8_t limpet_issue(struct limpet_card *card, uint8_t *area, size_t area_len,

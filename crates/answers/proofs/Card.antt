@@ -35,6 +35,7 @@ card = record {
   issue-issue = λ κs a x y p q i. let z = issued p q i in (z .0, (z .1, (tt, (tt, (tt, (tt, (tt, (tt, tt))))))));
   issue-reset = λ κs a x y. returned;
   place-limpet-card-size = λ κs a x y. returned;
+  place-limpet-version = λ κs a x y. returned;
   -- the claim `_` is read off the clauses, so that `refl` holds
   place-limpet-issue = record {
     claim = _;

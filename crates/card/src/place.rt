@@ -3,7 +3,7 @@
 ghost use mathlib.Core.Path.{_≡_};
 ghost use Rattle.rules.specs.Calls.{issue, command, reset};
 ghost use Rattle.card.specs.Ordered.{orderOf};
-ghost use Rattle.card.specs.Place.{Placed, PlacesIssue, PlacesCommand, cardSize};
+ghost use Rattle.card.specs.Place.{Placed, PlacesIssue, PlacesCommand, cardSize, version};
 use crate::issue::issue;
 use crate::issue::reset;
 use crate::step::command;
@@ -18,6 +18,14 @@ pub extern "C" fn limpet_card_size() -> usize
     ensures { λ r. ⌜ r ≡ cardSize ⌝ }
 {
     CARD_SIZE
+}
+
+// The header has the same number: a caller can tell whether library and header go together.
+#[no_mangle]
+pub extern "C" fn limpet_version() -> u32
+    ensures { λ r. ⌜ r ≡ version ⌝ }
+{
+    1
 }
 
 // The card before it does not matter; a refused issue leaves a blank one.
