@@ -4,9 +4,13 @@
 A transcript is a block marked console. A line with $ is typed at the shell. Below it a command in hex, reset and exit are typed
 to scriptor, each when the one before is answered; the rest is what the terminal shows. What is typed without being shown stands
 in a remark before the block. Blanks at the end of a line do not count.
+
+The table of status words has to be whole: each that a transcript shows is in it, and each that the rules name is on the page.
 """
+import glob
 import os
 import re
+import subprocess
 
 from stack import ROOT, OpenscTool, Scriptor, Terminal, card, card_present, check, end, wait_until
 
@@ -54,8 +58,27 @@ check("every console block is read", page.count("```console") == len(blocks), le
 
 # A command in a table that no transcript runs could be wrong without being noticed.
 run = "".join(block for _, block in blocks)
-for command in sorted(set(re.findall(r"`((?:00|80)[0-9A-F]{6,})`", page))):
+for command in sorted(set(re.findall(r"`([0-9A-F]{8,})`", page))):
     check(f"{command} is in a transcript", re.search(rf"(^|-s ){command}( |$)", run, re.MULTILINE) is not None)
+
+
+def status_words():
+    rows = re.findall(r"^\| ([0-9A-F]{4})(?: to ([0-9A-F]{4}))? \|", page, re.MULTILINE)
+    by_scriptor = re.findall(r"^<(?: [0-9A-F]{2})* ([0-9A-F]{2}) ([0-9A-F]{2}) :", run, re.MULTILINE)
+    by_opensc = re.findall(r"SW1=0x(..), SW2=0x(..)", run)
+    shown = {high + low for high, low in by_scriptor + by_opensc}
+    for word in sorted(shown):
+        check(f"the table has {word}", any(first <= word <= (last or first) for first, last in rows), rows)
+    for first, last in rows:
+        check(f"a transcript shows {first}", any(first <= word <= (last or first) for word in shown), shown)
+    rules = ""
+    for path in glob.glob(os.path.join(ROOT, "crates", "rules", "specs", "*.antt")):
+        with open(path, encoding="utf-8") as file:
+            rules += file.read()
+    for word in sorted(set(re.findall(r"\b0x(9000|6[0-9A-F]{3})\b", rules))):
+        on_page = "6C08" if word == "6C00" else word  # 6C and the record's length
+        check(f"the page speaks of {word}", re.search(rf"\b{on_page}\b", page) is not None)
+
 
 def transcripts():
     with card("examples/box.script") as reader:
@@ -83,6 +106,13 @@ def scriptor_ends(remark, happens):
     check(f"scriptor says {remark}", remark in scriptor.text and f"`{remark}`" in page, scriptor.text)
 
 
+def service():
+    """What the page puts behind kill is the number of the pcscd that runs."""
+    number = subprocess.run(["bash", "-c", "echo " + re.search(r"`kill (.*?)`", page)[1]], capture_output=True, text=True).stdout
+    with open(f"/proc/{number.strip()}/comm", encoding="utf-8") as file:
+        check("the page ends pcscd and nothing else", file.read() == "pcscd\n", number)
+
+
 def programs():
     opensc = ["opensc-tool", "-c", "default", "-s", "00200001"]
     says("No smartcard inserted.", "scriptor")
@@ -105,6 +135,8 @@ def programs():
         scriptor_ends("Card was removed.", removed)
 
 
+status_words()
+service()
 transcripts()
 programs()
 end()

@@ -6,7 +6,7 @@ What is expected was worked out from document 01, and stands with the reason; cr
 import subprocess
 import tempfile
 
-from stack import ISSUE_WORDS, KEY, OpenscTool, Scriptor, card, check, end, wait_until
+from stack import ADMIN_PIN, ISSUE_WORDS, KEY, USER_PIN, OpenscTool, Scriptor, card, check, end, wait_until
 
 ALARMS = ["000000010702000C", "0000000203010005", "000000030702002D", "0000000420060078", "000000050C040003"]
 RIGHT_PIN, WRONG_PIN = "0020000106313233343536", "0020000106313131313131"
@@ -124,10 +124,35 @@ def reload(ask):
     ask("00B2010C00", ALARMS[4] + "9000", "the newest alarm")
 
 
+def change(ask):
+    """After reload: the user PIN is 654321."""
+    ask.reset()
+    ask("0024010106323436383130", "6982", "CHANGE asks for the PIN's own right, which the reset dropped")
+    ask("0020000106363534333231", "9000", "the user PIN is right")
+    ask("00240101053234363831", "6700", "a PIN has six digits at least")
+    ask("0024010106020406080100", "6A80", "a digit is 30 to 39")
+    ask("0024010006323436383130", "6982", "the admin PIN asks for the admin right")
+    ask("0024010106323436383130", "9000", "the user right is held: the new PIN is 246810")
+    ask(QUERY, "9000", "the right stays")
+    ask.reset()
+    ask("0020000106363534333231", "63C2", "the old PIN is wrong now")
+    ask("0020000106323436383130", "9000", "the new one is right")
+
+
 def session(client):
     ask = Asking(client)
-    for part in (before_login, login, alarm_file, longest, blocked, reload):
+    for part in (before_login, login, alarm_file, longest, blocked, reload, change):
         part(ask)
+
+
+def many_tries(ask):
+    """With a limit of 16 for the user PIN."""
+    ask(QUERY, "63CF", "16 tries are left, and x is the smaller of tries and 15")
+    ask(WRONG_PIN, "63CF", "15 are left")
+    ask(WRONG_PIN, "63CE", "14 are left")
+    ask(RIGHT_PIN, "9000", "the right PIN restores all tries")
+    ask.reset()
+    ask(QUERY, "63CF", "16 are left")
 
 
 def frames(ask):
@@ -198,6 +223,10 @@ def main():
             connected.end()
     with card(*ISSUE_WORDS) as reader:
         rights_between_programs(reader)
+    with card(KEY, "128", ADMIN_PIN, "5", USER_PIN, "16"):
+        client = Scriptor()
+        many_tries(Asking(client))
+        client.end()
     end()
 
 
