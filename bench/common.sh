@@ -50,12 +50,43 @@ need() {
     fi
 }
 
-# logged LOG COMMAND...: what the command prints goes to LOG; what it says of a crate that is proved is shown too, as it comes.
-# With pipefail, as the scripts here have it, the exit status is the command's.
+# logged WHO CRATE LOG COMMAND...: runs a command that has rt prove CRATE, and no second one beside it, since rt keeps none away.
+# What it prints goes to LOG. WHO tells of each crate as it is begun and proved and, where the command fails, the errors in LOG.
+# The exit status is the command's.
 logged() {
-    local log=$1
-    shift
-    "$@" 2>&1 </dev/null | tee "$log" | sed -un '/^rt: [a-z_]* proved/p' >&2
+    local who=$1 log=$3 crate crates=() status=1
+    for crate in $(sed -n "s/^$2://p" crates.txt) "$2"; do
+        [ ! -d "crates/$crate" ] || crates+=("$crate") # the others are the kit's
+    done
+    shift 3
+    mkdir -p target/log "${log%/*}" || return
+    {
+        flock -n 9 || { echo "$who: waiting for another build to end" >&2 && flock 9; }
+        touch target/build.lock
+        "$@" 2>&1 </dev/null | tee "$log" | {
+            local ended=no count=0 logs now
+            local -A last=()
+            while [ $ended = no ]; do
+                read -r -t 1 -N 1000000 || (($? > 128)) || ended=yes # a second has passed, or the command has ended
+                # rt prints nothing of a crate before those beside it are proved too; target/log has it at once.
+                mapfile -t logs < <(find target/log -name '*.out' -newer target/build.lock)
+                for crate in "${crates[@]}"; do
+                    now=$(sed -n "s/^rt: \($crate proved (.*\)/\1/p
+                        s|^rt: target/staticlib/lib$crate\.a has .*|$crate proved|p" "$log" "${logs[@]}" | head -n 1)
+                    [ -n "$now" ] || [ ! "target/log/$crate.say" -nt target/build.lock ] || now="proving $crate"
+                    [ "$now" != "${last[$crate]-}" ] || continue
+                    last[$crate]=$now
+                    [[ $now == proving* ]] || count=$((count + 1))
+                    echo "$who: $now, $count of ${#crates[@]} done"
+                done
+            done
+        } >&2
+        status=${PIPESTATUS[0]}
+    } 9>>target/build.lock
+    if ((status != 0)); then
+        { grep -aEm 8 '(^|: )(fatal )?error\b|^E: ' "$log" || tail -n 10 "$log"; } | cut -c 1-500 >&2
+    fi
+    return "$status"
 }
 
 # library_is_old CRATE: has `library` name the crate's library for C, and tells whether there is none, or one older than the code of
