@@ -2,17 +2,26 @@
 """tools/alarms with cards in the virtual reader. What it does without one is in tests/alarms."""
 import contextlib
 import os
+import socket
 import subprocess
 import tempfile
+import threading
+import time
 
-from stack import ISSUE_WORDS, ROOT, SECONDS, OpenscTool, Terminal, card, check, end
+from stack import ISSUE_WORDS, ROOT, SECONDS, OpenscTool, Terminal, card, card_present, check, end, wait_until
 
 RANDOM = "00112233445566778899AABBCCDDEEFF"
 # The device login of FIPS 197's appendix C.1: its key is ISSUE_WORDS', its plaintext the random input.
 LOGIN = ["0084000010", "008200001069C4E0D86A7B0430D8CDB78070B4C55A"]
-HEAD = "    number  line  kind  minutes\n"
-BOX = HEAD + "".join(f"{number:>10}  {line:>4}  {kind:>4}  {minutes:>7}\n" for number, line, kind, minutes in (
-    (5, 12, 4, 3), (4, 32, 6, 120), (3, 7, 2, 45), (2, 3, 1, 5)))
+
+
+def table(*rows):
+    return "    number  line  kind  minutes\n" + "".join(
+        f"{number:>10}  {line:>4}  {kind:>4}  {minutes:>7}\n" for number, line, kind, minutes in rows)
+
+
+BOX = table((5, 12, 4, 3), (4, 32, 6, 120), (3, 7, 2, 45), (2, 3, 1, 5))
+INCOMPLETE = "incomplete: there may be alarms that are not in this table\n"
 
 
 @contextlib.contextmanager
@@ -84,6 +93,7 @@ FILES = [
     "80E0A106052E04080001", "00E20000080000000121010001", "00E20000080000000201070001",
     "00E20000080000000200060001", "00E20000080000000320060000",  # lines 33 and 0, kind 7; number 2 twice
     "80E0A107052EFE080001", *(f"00E2000008{number:08X}01010001" for number in range(1, 256)),  # 254 records, and one more
+    "80E0A108052E04080001", *(f"00E2000008{number:08X}01010001" for number in (8, 9, 1)),  # numbers that fall
 ]
 
 
@@ -95,21 +105,89 @@ def kinds_of_file():
         refused("a file that is never read", "another right", "--file", "A103", pin="123456")
         refused("records that are no alarms", "has 9 bytes and an alarm 8", "--file", "A104")
         refused("the user PIN does not open a file of the admin PIN", "another right", "--file", "a105", pin="123456")
-        rows = [(7, 7, 2, 65535), (4, 7, 2, 257), (2, 7, 2, 255), (1, 7, 2, 1)]
-        table = HEAD + "".join(f"{n:>10}  {line:>4}  {kind:>4}  {minutes:>7}\n" for n, line, kind, minutes in rows)
-        notes = "note: numbers 5 to 6 are missing\nnote: number 3 is missing\n"
-        printed("numbers that are missing", table + notes, "--sfi", "5", "--admin", pin="87654321")
+        rows = table((7, 7, 2, 65535), (4, 7, 2, 257), (2, 7, 2, 255), (1, 7, 2, 1))
+        missing = "missing: numbers 5 to 6\nmissing: number 3\n"
+        printed("numbers that are missing", rows + missing, "--sfi", "5", "--admin", pin="87654321")
+        rows = table((1, 1, 1, 1), (9, 1, 1, 1), (8, 1, 1, 1))
+        printed("numbers that fall", rows + "falling: number 1 was written after number 9\n", "--sfi", "8")
         status, out, err = alarms("--sfi", "6")
         check("records that are no alarms: status", (status, err) == (1, ""), err)
         marked = [line.split()[0] for line in out.splitlines() if "no alarm: " in line]
         check("records that are no alarms are marked", marked == ["2", "2", "1"], out)
-        check("numbers that do not rise", "note: number 2 stands before number 2: the numbers do not rise\n" in out, out)
+        check("a number that is doubled", "\ndoubled: number 2 stands in 2 records\n" in out, out)
         status, out, err = alarms("--sfi", "7")
         numbers = [int(line.split()[0]) for line in out.splitlines()[1:]]
         check("the largest file, 254 records", (status, numbers) == (0, list(range(255, 1, -1))), out)
 
 
+# ---- cards that fail while they are read
+
+
+@contextlib.contextmanager
+def made_up(answer):
+    """A card of this test's own in the virtual reader. answer: gives its answer to a command; None where it is taken out."""
+    power_off, power_on, reset, get_atr = (bytes([code]) for code in (0, 1, 2, 4))  # vpcd's messages; others are commands
+
+    def message():
+        vpcd.setsockopt(socket.IPPROTO_TCP, socket.TCP_QUICKACK, 1)  # only for speed, as in reader/vpcd.c
+        return stream.read(int.from_bytes(stream.read(2), "big"))
+
+    def serve():
+        with contextlib.suppress(OSError):  # where the connection was closed while vpcd asked
+            while body := message():
+                if body in (power_off, power_on, reset):
+                    continue
+                reply = bytes.fromhex("3B8A8131FE45807116564C494D50455439") if body == get_atr else answer(body)
+                if reply is None:
+                    break
+                vpcd.sendall(len(reply).to_bytes(2, "big") + reply)
+            vpcd.shutdown(socket.SHUT_RDWR)
+
+    with socket.create_connection(("127.0.0.1", 35963)) as vpcd, vpcd.makefile("rb") as stream:
+        served = threading.Thread(target=serve)
+        served.start()
+        try:
+            wait_until(card_present, "a card in the reader")
+            yield
+        finally:
+            with contextlib.suppress(OSError):  # where it is taken out already
+                vpcd.shutdown(socket.SHUT_RDWR)
+            served.join(SECONDS)
+    # Of a card that it could not reset pcscd says at once that it is not there, but looks for it only every 0.4 s, and does not
+    # see another one that is put in before.
+    time.sleep(1)
+    wait_until(lambda: not card_present(), "the card's removal")
+
+
+def failing():
+    """What was read before the card failed is printed, and is not said to be all."""
+    for name, good, answer, says in (
+        ("taken out at record 1", 0, None, "the card stopped answering; was it taken out?"),
+        ("taken out at record 3", 2, None, "the card stopped answering; was it taken out?"),
+        ("6F00 at record 3", 2, bytes.fromhex("6F00"), "the card answers 6F00 to READ RECORD"),
+        ("9 bytes in record 2", 1, bytes(9) + b"\x90\x00",
+         "a record of the file has 9 bytes and an alarm 8: it is not the alarm file"),
+        ("no end", 255, None, "the file has a record 255, and an alarm file has at most 254 records"),
+    ):
+        reads = []
+
+        def card_answers(command):
+            if command[1] == 0xA4:
+                return b"\x90\x00"
+            reads.append(command[2])
+            # The first read is only to see whether the PIN is needed.
+            if command[2] > good and len(reads) > 1:
+                return answer
+            return bytes.fromhex(f"{1000 - command[2]:08X}010200039000")
+
+        with made_up(card_answers):
+            got = alarms()
+        rows = table(*((1000 - number, 1, 2, 3) for number in range(1, good + 1))) + INCOMPLETE
+        check(name, got == (1, rows if good else "", f"alarms: {says}\n"), got)
+
+
 os.chdir(ROOT)
 box()
 kinds_of_file()
+failing()
 end()
