@@ -81,7 +81,7 @@ static void issue(struct held *h)
         wrong("a good order is refused");
 }
 
-/* A file of each type; four records appended to three places; the cyclic file is current. */
+/* A file of each type but 2C; four records appended to three places; the cyclic file is current. */
 static void with_files(struct held *h)
 {
     issue(h);
@@ -134,10 +134,71 @@ static void full(struct held *h)
     }
 }
 
+/* Appends one record of so many bytes, all of that value. */
+static void append_run(struct held *h, unsigned sfi, unsigned length, unsigned value)
+{
+    char command[16 + 2 * 178];
+    int written = snprintf(command, sizeof command, "00 E2 00%02X %02X ", 8 * sfi, length);
+
+    for (unsigned i = 0; i < length; i++)
+        written += snprintf(command + written, sizeof command - (size_t)written, "%02X", value);
+    told(h, command);
+}
+
+/*
+ * Files of type 2C: all but full, with room, full, the smallest, with the longest record, empty, and full at the area's end; files of
+ * other types between. Records hold small numbers, so that other lengths than their own may part the used bytes too.
+ */
+static void with_notes(struct held *h)
+{
+    issue(h);
+    log_in_device(h);
+    told(h, "80 E0 0101 05 28 0010 00 01");
+    told(h, "80 E0 0102 05 2C 0010 80 01");
+    told(h, "00 E2 0010 06 464545444552");
+    told(h, "00 E2 0010 07 41554745522037");
+    told(h, "80 E0 0103 05 2C 0040 00 00");
+    told(h, "00 E2 0018 01 02");
+    told(h, "00 E2 0018 04 03020100");
+    told(h, "00 E2 0018 09 080706050403020100");
+    told(h, "80 E0 0104 05 2E 0304 00 00");
+    told(h, "00 E2 0020 04 C1C1C1C1");
+    told(h, "80 E0 0105 05 2C 000C 00 01");
+    told(h, "00 E2 0028 01 00");
+    told(h, "00 E2 0028 02 0101");
+    told(h, "00 E2 0028 06 010101010101");
+    told(h, "80 E0 0106 05 2A 0203 00 01");
+    told(h, "80 E0 0107 05 2C 0002 00 01");
+    told(h, "00 E2 0038 01 01");
+    told(h, "80 E0 0108 05 2C 0100 00 01");
+    append_run(h, 8, 178, 88);
+    append_run(h, 8, 1, 0);
+    told(h, "80 E0 0109 05 2C 0020 00 01");
+    told(h, "80 E0 010A 05 28 0E30 00 01");
+    told(h, "80 E0 010B 05 2C 0030 00 01");
+    for (int i = 0; i < 3; i++)
+        append_run(h, 11, 15, 15);
+    log_in_pins(h);
+    told(h, "00 A4 0000 02 0103");
+    told(h, "00 84 0000 08");
+}
+
+/* The whole area is one file of type 2C, with as many records as fit. */
+static void full_of_notes(struct held *h)
+{
+    issue(h);
+    log_in_device(h);
+    told(h, "80 E0 0103 05 2C 1000 00 00");
+    for (unsigned i = 0; i < LIMPET_AREA_SIZE / 2; i++)
+        append_run(h, 3, 1, i % 256);
+}
+
 const struct sort sorts[SORTS] = {
-    { "fresh", issue },
-    { "with files and records", with_files },
-    { "with all rights and a challenge", with_rights },
-    { "with a locked PIN", locked },
-    { "with sixteen files", full },
+    [FRESH] = { "fresh", issue },
+    [WITH_FILES] = { "with files and records", with_files },
+    [WITH_RIGHTS] = { "with all rights and a challenge", with_rights },
+    [LOCKED] = { "with a locked PIN", locked },
+    [SIXTEEN] = { "with sixteen files", full },
+    [WITH_NOTES] = { "with notes of different lengths", with_notes },
+    [FULL_OF_NOTES] = { "full of notes of one byte", full_of_notes },
 };

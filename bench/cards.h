@@ -27,7 +27,7 @@ struct sort {
     void (*make)(struct held *h);
 };
 
-enum { SORTS = 5 };
+enum { FRESH, WITH_FILES, WITH_RIGHTS, LOCKED, SIXTEEN, WITH_NOTES, FULL_OF_NOTES, SORTS };
 extern const struct sort sorts[SORTS];
 
 #endif

@@ -123,8 +123,9 @@ build_bench() {
     shift
     case ${name%%-*} in
     inplace) sources=(inplace.c lines.c watched.c layout.c lent.c) ;;
-    refusals) sources=(refusals.c cards.c watched.c layout.c lent.c) ;;
+    refusals) sources=(refusals.c spoiled.c areas.c groups.c cards.c watched.c layout.c lent.c) ;;
     verifies) sources=(verifies.c) ;;
+    notes) sources=(notes.c) ;;
     calls) sources=(calls.c play.c lines.c) ;;
     stack) sources=(stack.c play.c lines.c) libraries+=(target/staticlib/libcipher.a) ;;
     *) echo "there is no bench program $name" >&2 && return 1 ;;
@@ -138,13 +139,13 @@ build_bench() {
     $cc -std=c11 "$@" "${strict[@]}" "${sources[@]/#/bench/}" "${libraries[@]}" -o "$built/$name"
 }
 
-# count_instructions: a line for each call of limpet_command that $built/verifies makes: what it prints of the call, and how many
-# instructions the call takes, by callgrind. Callgrind writes a part with its own total after each call, and one at the end.
+# count_instructions PROGRAM ARGUMENT...: a line for each call of limpet_command that the program makes: what it prints of the call,
+# and how many instructions the call takes, by callgrind. Callgrind writes a part with its own total after each call, and one at the end.
 count_instructions() {
     local counts
     counts=$(mktemp -d)
     valgrind -q --tool=callgrind --callgrind-out-file="$counts/out" --combine-dumps=yes \
-        --toggle-collect=limpet_command --dump-after=limpet_command "$built/verifies" >"$counts/calls" &&
+        --toggle-collect=limpet_command --dump-after=limpet_command "$@" >"$counts/calls" &&
         sed -n 's/^totals: //p' "$counts/out" | sed '$d' >"$counts/totals" &&
         [ "$(wc -l <"$counts/calls")" = "$(wc -l <"$counts/totals")" ] &&
         paste -d ' ' "$counts/calls" "$counts/totals"

@@ -26,8 +26,8 @@ uint8_t __wrap_limpet_command(struct limpet_card *card, uint8_t *area, size_t ar
                               const uint8_t *command, size_t command_len,
                               const uint8_t *random, size_t random_len,
                               uint8_t *reply, size_t reply_len, size_t *reply_count);
-uint8_t __real_limpet_reset(struct limpet_card *card);
-uint8_t __wrap_limpet_reset(struct limpet_card *card);
+uint8_t __real_limpet_reset(struct limpet_card *card, const uint8_t *area, size_t area_len);
+uint8_t __wrap_limpet_reset(struct limpet_card *card, const uint8_t *area, size_t area_len);
 
 static bool has_fault(const char *name)
 {
@@ -48,6 +48,37 @@ static void mask_rights(struct limpet_card *card)
 
     for (size_t i = 0; i < 3; i++)
         rights[i] &= 1;
+}
+
+/* As where a library does not look at the lengths of notes: whether nothing else is unsound. */
+static bool lengths_alone_are_bad(const struct limpet_card *card, const uint8_t *area)
+{
+    struct layout c;
+
+    memcpy(&c, card, sizeof c);
+    for (size_t i = 0; i < FILES; i++)
+        if (c.directory.files[i].type == 0x2C)
+            c.directory.files[i].used1 = c.directory.files[i].used2 = 0;
+    return is_sound((const uint8_t *)&c, area);
+}
+
+/* As where an append does not count the length byte. */
+static void count_one_less(struct limpet_card *card, unsigned sfi)
+{
+    struct layout c;
+
+    memcpy(&c, card, sizeof c);
+    for (size_t i = 0; i < FILES; i++)
+        if (c.directory.files[i].type == 0x2C && (c.directory.files[i].fid2 & 31u) == sfi)
+            c.directory.files[i].used2--;
+    memcpy(card, &c, sizeof c);
+}
+
+static bool is_blank(const struct limpet_card *card)
+{
+    static const uint8_t blank[LIMPET_CARD_SIZE];
+
+    return memcmp(card, blank, sizeof blank) == 0;
 }
 
 static void flip(const void *bytes, ptrdiff_t place)
@@ -127,12 +158,16 @@ uint8_t __wrap_limpet_command(struct limpet_card *card, uint8_t *area, size_t ar
         return LIMPET_BAD_AREA;
     if (has_fault("unsound-served") && outcome == LIMPET_UNSOUND)
         return LIMPET_OK;
+    if (has_fault("lengths-not-looked-at") && outcome == LIMPET_UNSOUND && lengths_alone_are_bad(card, area))
+        return LIMPET_OK;
+    if (has_fault("length-byte-not-counted") && served && command_len > 5 && command[1] == 0xE2)
+        count_one_less(card, command[3] >> 3);
     return outcome;
 }
 
-uint8_t __wrap_limpet_reset(struct limpet_card *card)
+uint8_t __wrap_limpet_reset(struct limpet_card *card, const uint8_t *area, size_t area_len)
 {
-    uint8_t outcome = __real_limpet_reset(card);
+    uint8_t outcome = __real_limpet_reset(card, area, area_len);
 
     if (has_fault("reset-changes-the-key") && outcome == LIMPET_OK)
         flip(card, 0);
@@ -140,5 +175,15 @@ uint8_t __wrap_limpet_reset(struct limpet_card *card)
         return LIMPET_UNSOUND;
     if (has_fault("reset-on-refusal") && outcome != LIMPET_OK)
         flip(card, 0);
+    if (has_fault("reset-writes-the-area") && area_len > 0)
+        flip(area, (ptrdiff_t)area_len - 1);
+    if (has_fault("reset-area-past-its-end"))
+        flip(area, (ptrdiff_t)area_len);
+    if (has_fault("reset-takes-any-area") && outcome == LIMPET_BAD_AREA)
+        return LIMPET_OK;
+    if (has_fault("reset-unsound-before-area") && outcome == LIMPET_BAD_AREA && is_blank(card))
+        return LIMPET_UNSOUND;
+    if (has_fault("reset-lengths-not-looked-at") && outcome == LIMPET_UNSOUND && lengths_alone_are_bad(card, area))
+        return LIMPET_OK;
     return outcome;
 }

@@ -20,7 +20,7 @@ int main(void)
 
     if (limpet_version() != LIMPET_VERSION || limpet_card_size() != LIMPET_CARD_SIZE)
         return 1;
-    if (limpet_reset(card) != LIMPET_UNSOUND)
+    if (limpet_reset(card, area, sizeof area) != LIMPET_UNSOUND)
         return 2;
     if (limpet_issue(card, area, sizeof area, key, sizeof key, 3, pin, sizeof pin, 3, pin, sizeof pin, 3) != LIMPET_OK)
         return 3;
@@ -29,5 +29,5 @@ int main(void)
         return 4;
     if (count != 2 || reply[0] != 0x63 || reply[1] != 0xC3)
         return 5;
-    return limpet_reset(card) == LIMPET_OK ? 0 : 6;
+    return limpet_reset(card, area, sizeof area) == LIMPET_OK ? 0 : 6;
 }

@@ -66,8 +66,7 @@ static bool good_rights(uint8_t rights)
     return rights == 0x0F || (rights & ~0xC1) == 0;
 }
 
-/* The bytes of the area that a file takes, 0 where its type or size is bad. */
-static unsigned file_size(const struct file *f)
+unsigned file_size(const struct file *f)
 {
     unsigned both = 256u * f->size1 + f->size2;
     bool records = 2 <= f->size1 && f->size1 <= 254 && 1 <= f->size2 && f->size2 <= 178;
@@ -75,6 +74,8 @@ static unsigned file_size(const struct file *f)
     switch (f->type) {
     case 0x28:
         return both <= 4096 ? both : 0;
+    case 0x2C:
+        return 2 <= both && both <= 4096 ? both : 0;
     case 0x2A:
     case 0x2E:
         return records ? (unsigned)f->size1 * f->size2 : 0;
@@ -88,6 +89,33 @@ static bool sound_held(const struct file *f)
     if (f->type != 0x2E)
         return f->held == 0 && f->newest == 0;
     return f->held <= f->size1 && f->newest < f->size1 && (f->held > 0 || f->newest == 0);
+}
+
+unsigned used_bytes(const struct file *f)
+{
+    return 256u * f->used1 + f->used2;
+}
+
+/* "Lengths of 1 to 178 part them exactly": each stands before its record. */
+static bool are_parted(const uint8_t *bytes, unsigned used)
+{
+    unsigned at = 0;
+
+    while (at < used) {
+        unsigned length = bytes[at];
+        if (length < 1 || length > 178 || at + 1 + length > used)
+            return false;
+        at += 1 + length;
+    }
+    return true;
+}
+
+/* extent: the file's part of the area, of file_size(f) bytes. */
+static bool sound_used(const struct file *f, const uint8_t *extent)
+{
+    if (f->type != 0x2C)
+        return used_bytes(f) == 0;
+    return used_bytes(f) <= file_size(f) && are_parted(extent, used_bytes(f));
 }
 
 static unsigned sfi_of(const struct file *f)
@@ -108,7 +136,7 @@ static bool unused_file(const struct file *f)
     return memcmp(f, &unused, sizeof unused) == 0;
 }
 
-static bool sound_directory(const struct directory *d)
+static bool sound_directory(const struct directory *d, const uint8_t *area)
 {
     unsigned taken = 0;
     uint32_t sfis = 0;
@@ -122,12 +150,13 @@ static bool sound_directory(const struct directory *d)
                 return false;
             continue;
         }
-        if (!sound_file(f) || (sfis >> sfi_of(f) & 1) != 0)
+        if (!sound_file(f) || (sfis >> sfi_of(f) & 1) != 0 || taken + file_size(f) > LIMPET_AREA_SIZE
+            || !sound_used(f, area + taken))
             return false;
         sfis |= UINT32_C(1) << sfi_of(f);
         taken += file_size(f);
     }
-    return taken <= LIMPET_AREA_SIZE;
+    return true;
 }
 
 static bool sound_challenge(const struct session *s)
@@ -136,7 +165,7 @@ static bool sound_challenge(const struct session *s)
         && are_zero(s->challenge, s->length, CHALLENGE_ROOM);
 }
 
-bool is_sound(const uint8_t *card)
+bool is_sound(const uint8_t *card, const uint8_t *area)
 {
     struct layout c;
 
@@ -144,7 +173,7 @@ bool is_sound(const uint8_t *card)
     return sound_tries(c.key.tries, c.session.device)
         && sound_pin(&c.admin) && sound_tries(c.admin.tries, c.session.admin)
         && sound_pin(&c.user) && sound_tries(c.user.tries, c.session.user)
-        && sound_directory(&c.directory)
+        && sound_directory(&c.directory, area)
         && c.session.current <= c.directory.count
         && sound_challenge(&c.session);
 }

@@ -1,7 +1,7 @@
 /*
  * The bytes of a card, for tests alone: a caller has no business there. They
  * lie as the structs of crates/rules and crates/files have them. And what
- * document 01, "What a card holds", says of them.
+ * document 01, "What a card holds", and request R-1 of document 02 say of them.
  */
 #ifndef LAYOUT_H
 #define LAYOUT_H
@@ -29,9 +29,9 @@ struct pin {
     struct tries tries;
 };
 
-/* A file; its FID has the high byte first, and its two size bytes are CREATE's. */
+/* A file; its FID and its used bytes have the high byte first, and its two size bytes are CREATE's. */
 struct file {
-    uint8_t fid1, fid2, type, size1, size2, read, write, held, newest;
+    uint8_t fid1, fid2, type, size1, size2, read, write, held, newest, used1, used2;
 };
 
 struct directory {
@@ -62,7 +62,11 @@ enum { FIELDS = 14 };
 size_t field_at(size_t place);
 const char *field_name(size_t field);
 
-/* Whether the bytes are a sound state, by document 01. */
-bool is_sound(const uint8_t *card);
+/* The bytes of the area that a file takes, 0 where its type or size is bad; and how many of them records of type 2C use. */
+unsigned file_size(const struct file *f);
+unsigned used_bytes(const struct file *f);
+
+/* Whether these bytes and those of an area of LIMPET_AREA_SIZE are together a sound state, by the papers. */
+bool is_sound(const uint8_t *card, const uint8_t *area);
 
 #endif

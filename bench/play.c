@@ -44,7 +44,7 @@ void play_line(struct bench *b, const struct line *l)
                        reply, sizeof reply, &count);
         b->calls++;
     } else if (l->kind == RESET_LINE && b->has_card) {
-        limpet_reset((struct limpet_card *)b->card);
+        limpet_reset((struct limpet_card *)b->card, b->area, sizeof b->area);
         b->calls++;
     }
 }

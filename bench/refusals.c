@@ -1,8 +1,8 @@
 /*
  * Bad input: buffers of every length, several wrong at once, and cards that are
- * not sound, made by spoiling bytes of cards in use. Each call is watched, as
- * watched.h says: its outcome is the one that document 01 gives it, and a
- * refusal leaves everything as it was.
+ * not sound, made by spoiling bytes of cards in use or of their areas. Each call
+ * is watched, as watched.h says: its outcome is the one that the papers give it,
+ * and a refusal leaves everything as it was.
  *
  * A line for each group of cases, and at the end the number of groups that
  * passed and that failed.
@@ -12,85 +12,22 @@
 #include <stdlib.h>
 #include <string.h>
 
-#include "cards.h"
-#include "layout.h"
-#include "watched.h"
+#include "groups.h"
 
-static unsigned passed, failed;
-static bool is_short;
-static unsigned long one_in = 1; /* of so many spoiled cards one is tried */
+static const struct pattern blank;
 
 static void usage(FILE *to)
 {
     fputs("usage: refusals [--exact] [--short] [--one-in N]\n"
           "\n"
-          "Tries calls on a card that must be refused, and cards that are not sound.\n"
+          "Tries calls on a card that must be refused, cards that are not sound, and areas\n"
+          "that do not fit their card.\n"
           "The exit status is 1 where an outcome or a byte was not as it must be.\n"
           "\n"
           "  --exact     no guard bytes: each buffer is a heap block of its own and of its\n"
           "              exact size, for valgrind or the address sanitizer to watch\n"
           "  --short     fewer cases, for a run under valgrind\n"
-          "  --one-in N  of the spoiled cards one in N, for a run under an emulator\n", to);
-}
-
-/* ------------------------------------------------------------------ groups */
-
-struct group {
-    const char *name;
-    unsigned long wrongs, calls;
-};
-
-static struct group begin(const char *name)
-{
-    call_name = name;
-    call_number = 0;
-    return (struct group){ name, wrongs, calls };
-}
-
-static void end(struct group g)
-{
-    bool right = wrongs == g.wrongs;
-
-    printf("%s: %lu calls%s\n", g.name, calls - g.calls, right ? ", right" : ", NOT RIGHT");
-    passed += right;
-    failed += !right;
-}
-
-/* -------------------------------------------------------------- cards held */
-
-/* A card of a sort, as its bytes are, and the area that goes with it. */
-struct pattern {
-    uint8_t card[LIMPET_CARD_SIZE];
-    uint8_t area[LIMPET_AREA_SIZE];
-};
-
-static struct pattern patterns[SORTS];
-
-static void make_patterns(void)
-{
-    struct group g = begin("cards in use");
-
-    for (size_t i = 0; i < SORTS; i++) {
-        struct held h = hold(NULL, LIMPET_AREA_SIZE);
-        sorts[i].make(&h);
-        memcpy(patterns[i].card, h.card.bytes, sizeof patterns[i].card);
-        memcpy(patterns[i].area, h.area.bytes, sizeof patterns[i].area);
-        if (!is_sound(patterns[i].card))
-            wrong("the card %s is not sound", sorts[i].name);
-        let_go(&h);
-    }
-    end(g);
-}
-
-static void hold_again(struct held *h, const struct pattern *p)
-{
-    memcpy(h->card.bytes, p->card, sizeof p->card);
-    memcpy(h->area.bytes, p->area, sizeof p->area);
-}
-
-static const struct pattern *in_use(void)
-{
-    return &patterns[2];
+          "  --one-in N  of the spoiled cards and areas one in N, for a run under an emulator\n", to);
 }
 
 /* --------------------------------------------------- lengths of a command */
@@ -105,11 +42,11 @@ static const struct shape good_shape = {
     .reply = LIMPET_REPLY_SIZE, .area = LIMPET_AREA_SIZE, .command = 4, .random = LIMPET_RANDOM_SIZE
 };
 
-static void call_in_shape(struct shape s, const uint8_t *card)
+static void call_in_shape(struct shape s, const struct pattern *p)
 {
     static const uint8_t command[2048] = { 0x00, 0x20, 0x00, 0x01 };
     static const uint8_t random[256];
-    struct held h = hold(card, s.area);
+    struct held h = hold_part(p, s.area);
 
     call_number++;
     h.has_no_area = s.null_area;
@@ -126,7 +63,7 @@ static void command_lengths(const char *name, size_t offset, size_t most)
     for (size_t n = 0; n <= most; n += is_short && n < 4000 && most > 4000 ? 97 : 1) {
         struct shape s = good_shape;
         memcpy((char *)&s + offset, &n, sizeof n);
-        call_in_shape(s, in_use()->card);
+        call_in_shape(s, in_use());
     }
     end(g);
 }
@@ -153,7 +90,7 @@ static void command_nulls(void)
                 *lengths[i] = 0;
                 *nulls[i] = true;
             }
-        call_in_shape(s, in_use()->card);
+        call_in_shape(s, in_use());
     }
     end(g);
 }
@@ -165,7 +102,6 @@ static void command_precedence(void)
     static const size_t areas[] = { 4096, 0, 4095, 4097 };
     static const size_t randoms[] = { 16, 0, 15, 17 };
     static const size_t commands[] = { 4, 0, 5, 300 };
-    static const uint8_t blank[LIMPET_CARD_SIZE];
     struct group g = begin("command: several wrong at once");
 
     for (unsigned i = 0; i < 512; i++) {
@@ -173,7 +109,35 @@ static void command_precedence(void)
             .reply = replies[i % 4], .area = areas[i / 4 % 4],
             .random = randoms[i / 16 % 4], .command = commands[i / 64 % 4]
         };
-        call_in_shape(s, i < 256 ? blank : in_use()->card);
+        call_in_shape(s, i < 256 ? &blank : in_use());
+    }
+    end(g);
+}
+
+/* ------------------------------------------------------------------ reset */
+
+static void reset_with(const struct pattern *p, size_t area_length, bool no_area)
+{
+    struct held h = hold_part(p, area_length);
+
+    call_number++;
+    h.has_no_area = no_area;
+    watched_reset(&h);
+    let_go(&h);
+}
+
+/* On a sound card, on a blank one, and on one whose area alone is spoiled: the area's length counts first. */
+static void reset_areas(void)
+{
+    struct group g = begin("reset: length of the area, 0 to 4,200 and at a null pointer");
+    struct pattern no_length = *in_use();
+    const struct pattern *const cards[] = { in_use(), &blank, &no_length };
+
+    memset(no_length.area, 0, sizeof no_length.area);
+    for (int i = 0; i < 3; i++) {
+        for (size_t n = 0; n <= 4200; n += is_short && n < 4000 ? 97 : 1)
+            reset_with(cards[i], n, false);
+        reset_with(cards[i], 0, true);
     }
     end(g);
 }
@@ -301,163 +265,6 @@ static void issue_precedence(void)
     end(g);
 }
 
-/* --------------------------------------------------------- unsound cards */
-
-/* Commands that look at every part of a card; each ends in some status word on a sound one. */
-static const char *const commands[] = {
-    "00 20 0001",                /* the query comes first: it is the one that all values of a byte get */
-    "00 20 0000 08 3837363534333231",
-    "00 82 0000 10 69C4E0D86A7B0430D8CDB78070B4C55A",
-    "00 B2 011C 00",
-    "00 E2 0018 04 C5C5C5C5",
-    "00 B0 0000 01",
-    "80 E0 011D 05 28 0001 00 00",
-    "00 24 0101 06 363534333231",
-    "",
-};
-enum { COMMANDS = sizeof commands / sizeof commands[0] };
-
-struct tally {
-    unsigned long cards, served, refused;
-};
-
-static void count_card(struct tally *t, const uint8_t *card)
-{
-    bool sound = is_sound(card);
-
-    t->cards++;
-    t->served += sound;
-    t->refused += !sound;
-}
-
-static void print_tally(const char *name, const struct tally *t)
-{
-    printf("  %s: %lu cards, %lu sound and served, %lu refused with 4\n", name, t->cards, t->served, t->refused);
-}
-
-/* All calls on one spoiled card, with its area, at an address of its own; the watched calls hold each to its due outcome. */
-static void try_card(const struct pattern *spoiled, unsigned most)
-{
-    struct held h = hold(NULL, LIMPET_AREA_SIZE);
-
-    for (unsigned i = 0; i < most; i++) {
-        hold_again(&h, spoiled);
-        tell(&h, commands[i]);
-    }
-    hold_again(&h, spoiled);
-    watched_reset(&h);
-    let_go(&h);
-}
-
-static bool is_one_bit(unsigned difference)
-{
-    return (difference & (difference - 1)) == 0;
-}
-
-/* Every other value of every byte; where a single bit differs, all the commands. */
-static void spoil_bytes(const struct pattern *p, struct tally *all, struct tally *by_sort, struct tally *by_field)
-{
-    static unsigned long turn;
-
-    for (size_t place = 0; place < LIMPET_CARD_SIZE; place++)
-        for (unsigned difference = 1; difference < 256; difference++) {
-            if ((is_short && !is_one_bit(difference)) || turn++ % one_in != 0)
-                continue;
-            struct pattern spoiled = *p; /* for each anew: gcc 12.2 from -O1 on loses a store that sets the byte back */
-            spoiled.card[place] ^= (uint8_t)difference;
-            call_number = 1000 * place + spoiled.card[place];
-            count_card(all, spoiled.card);
-            count_card(by_sort, spoiled.card);
-            count_card(&by_field[field_at(place)], spoiled.card);
-            try_card(&spoiled, is_one_bit(difference) && !is_short ? COMMANDS : 1);
-        }
-}
-
-static void spoiled_cards(void)
-{
-    struct group g = begin("cards with one byte spoiled (1000 x place + value)");
-    struct tally all = { 0 };
-    struct tally by_sort[SORTS] = { { 0 } };
-    struct tally by_field[FIELDS] = { { 0 } };
-
-    for (size_t i = 0; i < SORTS; i++)
-        spoil_bytes(&patterns[i], &all, &by_sort[i], by_field);
-    end(g);
-    print_tally("all of them", &all);
-    for (size_t i = 0; i < SORTS; i++)
-        print_tally(sorts[i].name, &by_sort[i]);
-    for (size_t i = 0; i < FIELDS; i++)
-        print_tally(field_name(i), &by_field[i]);
-}
-
-/* Marsaglia's xorshift with 64 bits and the shifts 13, 7, 17, from a fixed seed. */
-static uint32_t random_below(uint32_t bound)
-{
-    static uint64_t state = 88172645463325252u;
-
-    state ^= state << 13;
-    state ^= state >> 7;
-    state ^= state << 17;
-    return (uint32_t)((state >> 32) * bound >> 32);
-}
-
-/* Up to five bytes spoiled at once, by small steps or values that mean something elsewhere, or bytes of another card. */
-static void spoil_several(uint8_t *card, const uint8_t *other)
-{
-    static const uint8_t values[] = { 0, 1, 4, 8, 16, 0x28, 0x2A, 0x2E, 0x30, 0x39, 0x0F, 0x80, 0xC1, 254, 255 };
-
-    for (uint32_t n = 1 + random_below(5); n > 0; n--) {
-        size_t place = random_below(LIMPET_CARD_SIZE);
-        switch (random_below(4)) {
-        case 0:
-            card[place]++;
-            break;
-        case 1:
-            card[place]--;
-            break;
-        case 2:
-            card[place] = values[random_below(sizeof values)];
-            break;
-        default:
-            card[place] = other[place];
-        }
-    }
-}
-
-static void cards_with_several(void)
-{
-    struct group g = begin("cards with several bytes spoiled");
-    struct tally t = { 0 };
-
-    for (unsigned i = 0; i < (is_short ? 500u : 50000u / one_in); i++) {
-        struct pattern spoiled = patterns[random_below(SORTS)];
-        spoil_several(spoiled.card, patterns[random_below(SORTS)].card);
-        call_number = i;
-        count_card(&t, spoiled.card);
-        try_card(&spoiled, is_short ? 1 : COMMANDS);
-    }
-    end(g);
-    print_tally("up to five", &t);
-}
-
-/* Any bytes are a state: cards that never were one, with the area of a card in use. */
-static void cards_of_any_bytes(void)
-{
-    struct group g = begin("cards of random bytes");
-    struct pattern spoiled = *in_use();
-    struct tally t = { 0 };
-
-    for (unsigned i = 0; i < (is_short ? 100u : 10000u / one_in); i++) {
-        for (size_t place = 0; place < LIMPET_CARD_SIZE; place++)
-            spoiled.card[place] = (uint8_t)random_below(256);
-        call_number = i;
-        count_card(&t, spoiled.card);
-        try_card(&spoiled, is_short ? 1 : COMMANDS);
-    }
-    end(g);
-    print_tally("all of them", &t);
-}
-
 /* ------------------------------------------------------------------- main */
 
 static void refuse_all(void)
@@ -465,15 +272,15 @@ static void refuse_all(void)
     all_command_lengths();
     command_nulls();
     command_precedence();
+    reset_areas();
     issue_areas();
     issue_lengths();
     issue_nulls();
     issue_limits();
     issue_digits();
     issue_precedence();
-    spoiled_cards();
-    cards_with_several();
-    cards_of_any_bytes();
+    try_spoiled_cards();
+    try_wrong_areas();
 }
 
 static bool read_arguments(int count, char **arguments)

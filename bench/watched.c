@@ -237,7 +237,7 @@ static uint8_t due_of_command(const struct held *h, struct given random, size_t 
         return LIMPET_BAD_AREA;
     if (random.length != LIMPET_RANDOM_SIZE)
         return LIMPET_BAD_RANDOM;
-    return is_sound(h->card.bytes) ? LIMPET_OK : LIMPET_UNSOUND;
+    return is_sound(h->card.bytes, h->area.bytes) ? LIMPET_OK : LIMPET_UNSOUND;
 }
 
 /* The reply: what is past the answer, all of it on a refusal, is as it was. */
@@ -287,8 +287,8 @@ static void check_held(const struct held *h, uint8_t outcome, const uint8_t *car
     if (outcome == LIMPET_OK) {
         check_guards("card", &h->card);
         check_guards("area", &h->area);
-        if (!is_sound(h->card.bytes))
-            wrong("the card is not sound after a served command");
+        if (!is_sound(h->card.bytes, h->area.bytes))
+            wrong("card and area are not sound after a served command");
     } else {
         check_card(h, card, "the card was changed by a refused command");
         check_area(h, area);
@@ -332,15 +332,23 @@ struct answer watched_command(struct held *h, struct given command, struct given
     return a;
 }
 
+/* "Reset is lent the area and checks 2 before 4." */
+static uint8_t due_of_reset(const struct held *h)
+{
+    if (h->area.length != LIMPET_AREA_SIZE)
+        return LIMPET_BAD_AREA;
+    return is_sound(h->card.bytes, h->area.bytes) ? LIMPET_OK : LIMPET_UNSOUND;
+}
+
 /* "Reset clears rights, current file and challenge only." */
 uint8_t watched_reset(struct held *h)
 {
     struct layout due;
-    uint8_t due_outcome = is_sound(h->card.bytes) ? LIMPET_OK : LIMPET_UNSOUND;
+    uint8_t due_outcome = due_of_reset(h);
     uint8_t *area = kept_copy(&h->area);
 
     memcpy(&due, h->card.bytes, sizeof due);
-    uint8_t outcome = limpet_reset(card_of(h));
+    uint8_t outcome = limpet_reset(card_of(h), start(&h->area, h->has_no_area), h->area.length);
 
     check_outcome(outcome, due_outcome);
     if (outcome == LIMPET_OK)

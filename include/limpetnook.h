@@ -22,7 +22,7 @@
  * tests run):
  *
  *                 code    constants   stack of a call      C functions needed
- *   libcard.a     42000   1000        LIMPET_CARD_STACK    memcpy, memset
+ *   libcard.a     46000   1000        LIMPET_CARD_STACK    memcpy, memset
  *   libcipher.a   1420    256         LIMPET_AES128_STACK  none
  *
  * A program without a C library has to bring memcpy and memset along.
@@ -44,7 +44,7 @@ extern "C" {
  *
  *   if (limpet_version() != LIMPET_VERSION) ... header and library do not match
  */
-#define LIMPET_VERSION 1
+#define LIMPET_VERSION 2
 
 uint32_t limpet_version(void);
 
@@ -57,7 +57,7 @@ uint32_t limpet_version(void);
 #define LIMPET_SHORT_REPLY 1 /* the reply buffer is under 258 bytes */
 #define LIMPET_BAD_AREA 2    /* the data area is not 4,096 bytes long */
 #define LIMPET_BAD_RANDOM 3  /* the random input is not 16 bytes long */
-#define LIMPET_UNSOUND 4     /* the card's bytes are no state of a card */
+#define LIMPET_UNSOUND 4     /* card and area are together no state of a card */
 #define LIMPET_BAD_ISSUE 5   /* issue: a key, a PIN or a limit is not good */
 #define LIMPET_BAD_LENGTH 6  /* key, block or output is not 16 bytes long */
 
@@ -107,6 +107,10 @@ uint8_t limpet_aes128(const uint8_t *key, size_t key_len,
  * The caller keeps the card and its area of 4,096 bytes, and lends both to each
  * call, always the same two together. The call changes them in place. While no
  * call runs a card may be copied byte by byte, together with its area.
+ *
+ * A card does not know its own area from another's. With another's it is refused
+ * with LIMPET_UNSOUND where the lengths of its records of type 2C, which stand in
+ * the area, do not fit; otherwise it is served as if the area were its own.
  */
 struct limpet_card;
 
@@ -119,7 +123,7 @@ struct limpet_card;
  *
  * once limpet_version() was seen to be LIMPET_VERSION.
  */
-#define LIMPET_CARD_SIZE 222
+#define LIMPET_CARD_SIZE 254
 
 size_t limpet_card_size(void);
 
@@ -161,7 +165,7 @@ uint8_t limpet_issue(struct limpet_card *card,
  *   LIMPET_SHORT_REPLY  reply_len is under LIMPET_REPLY_SIZE.
  *   LIMPET_BAD_AREA     area_len is not LIMPET_AREA_SIZE.
  *   LIMPET_BAD_RANDOM   random_len is not LIMPET_RANDOM_SIZE.
- *   LIMPET_UNSOUND      the card's bytes are no state of a card.
+ *   LIMPET_UNSOUND      card and area are together no state of a card.
  *
  * There is no other outcome, and the first that applies is returned. On a
  * refusal card, area and reply are as they were, and *reply_count is 0.
@@ -175,15 +179,17 @@ uint8_t limpet_command(struct limpet_card *card,
 
 /*
  * Resets the card, as taking it out of the reader does: no right is held, no
- * file is current, there is no challenge. Tries, PINs and files stay.
+ * file is current, there is no challenge. Tries, PINs and files stay. The area
+ * is only read.
  *
- *   LIMPET_OK       the card is reset.
- *   LIMPET_UNSOUND  the card's bytes are no state of a card, and are as they
- *                   were.
+ *   LIMPET_OK        the card is reset.
+ *   LIMPET_BAD_AREA  area_len is not LIMPET_AREA_SIZE.
+ *   LIMPET_UNSOUND   card and area are together no state of a card.
  *
- * There is no other outcome.
+ * There is no other outcome, and the first that applies is returned. On a
+ * refusal the card is as it was.
  */
-uint8_t limpet_reset(struct limpet_card *card);
+uint8_t limpet_reset(struct limpet_card *card, const uint8_t *area, size_t area_len);
 
 /*
  * The caller's side of the three calls on a card:
@@ -191,16 +197,17 @@ uint8_t limpet_reset(struct limpet_card *card);
  *     and is never NULL. reply_count points to a size_t, aligned as such, and
  *     is never NULL; what it holds before does not matter.
  *   - Each other buffer is a pointer and a number of bytes. So many bytes can
- *     be read there, and those of area and reply written too, during the whole
- *     call. That counts for a number that will be refused as well. A pointer
- *     may be NULL, or point nowhere, only where its number is 0. No such
+ *     be read there, and written too where the pointer is not to const, during
+ *     the whole call. That counts for a number that will be refused as well. A
+ *     pointer may be NULL, or point nowhere, only where its number is 0. No such
  *     buffer has to be aligned.
  *   - card, area, reply and reply_count overlap neither each other nor any
  *     other buffer of the call. Those that are only read may overlap.
  *
- * The card's bytes may be any. Bytes that are no state of a card are refused
- * with LIMPET_UNSOUND. Bytes that are one are served as that card, even where
- * no call ever left them so. No byte before or after a buffer is written.
+ * The bytes of card and area may be any. Where they are together no state of a
+ * card they are refused with LIMPET_UNSOUND. Where they are one they are served
+ * as that card, even where no call ever left them so. No byte before or after a
+ * buffer is written.
  */
 
 #ifdef __cplusplus

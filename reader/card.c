@@ -24,7 +24,7 @@ uint8_t card_issue(const struct issue *v)
 
 uint8_t card_reset(void)
 {
-    return limpet_reset(card());
+    return limpet_reset(card(), area, sizeof area);
 }
 
 uint8_t card_command(struct bytes command, struct bytes random, uint8_t *reply, size_t *count)

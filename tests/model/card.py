@@ -1,8 +1,8 @@
-"""A second reading of document 01: the card, in plain Python.
+"""A second reading of document 01, with request R-1 of document 02: the card, in plain Python.
 
-This model was written from the paper alone. It exists to be compared with the proved program, so it favours the
-order and the words of the paper over speed or cleverness, and shares nothing with the code that it is compared to.
-Numbers with two hex digits in the commands are hex, as in the paper.
+This model was written from the papers alone. It exists to be compared with the proved program, so it favours the
+order and the words of the papers over speed or cleverness, and shares nothing with the code that it is compared to.
+Numbers with two hex digits in the commands are hex, as in document 01.
 """
 
 from functools import lru_cache
@@ -108,7 +108,9 @@ if encrypt(bytes(range(16)), bytes.fromhex("00112233445566778899AABBCCDDEEFF")) 
 AREA_SIZE = 4096
 MOST_FILES = 16
 
-BINARY, FIXED, CYCLIC = 0x28, 0x2A, 0x2E
+BINARY, FIXED, VARIABLE, CYCLIC = 0x28, 0x2A, 0x2C, 0x2E
+RECORD_TYPES = (FIXED, VARIABLE, CYCLIC)
+LONGEST_RECORD = 178
 
 # Rights byte: bit 8 admin, bit 7 user, bit 1 device; every set bit must be held; 00 is free; 0F means never.
 ADMIN_BIT, USER_BIT, DEVICE_BIT = 0x80, 0x40, 0x01
@@ -132,11 +134,12 @@ class Credential:
 class File:
     """One place of the directory.
 
-    A binary file uses `size`. A record file uses `count` and `length`. `records` is the stored number of records held
-    and `newest` the place of the newest; only a 2E file uses these two.
+    A 28 or 2C file uses `size`, a 2A or 2E file `count` and `length`. `records` is the stored number of records held
+    and `newest` the place of the newest; only a 2E file uses these two. `used` is how many bytes the records of a 2C
+    file take with their length bytes; only a 2C file uses it.
     """
 
-    __slots__ = ("fid", "kind", "size", "count", "length", "read", "write", "start", "records", "newest")
+    __slots__ = ("fid", "kind", "size", "count", "length", "read", "write", "start", "records", "newest", "used")
 
     def __init__(self, fid, kind, size, count, length, read, write, start):
         self.fid = fid
@@ -149,6 +152,7 @@ class File:
         self.start = start
         self.records = 0
         self.newest = 0
+        self.used = 0
 
     @property
     def sfi(self):
@@ -157,20 +161,40 @@ class File:
     @property
     def extent(self):
         """How many bytes of the data area are this file's."""
-        return self.size if self.kind == BINARY else self.count * self.length
+        return self.size if self.kind in (BINARY, VARIABLE) else self.count * self.length
 
-    def records_held(self):
-        """A 2A file holds all its records from creation, a 2E file as many as it knows of."""
+    def variable_records(self, area):
+        """The records of a 2C file, oldest first: where in the data area each begins, and its length.
+
+        A record's length stands in the byte before it. None where lengths of 1 to 178 do not part the used bytes
+        exactly, which never is so in a sound card.
+        """
+        found = []
+        place, end = self.start, self.start + self.used
+        while place < end:
+            length = area[place]
+            if not 1 <= length <= LONGEST_RECORD:
+                return None
+            found.append((place + 1, length))
+            place += 1 + length
+        return found if place == end else None
+
+    def records_held(self, area):
+        """A 2A file holds all its records from creation, a 2E file as many as it knows of, a 2C file what its bytes say."""
+        if self.kind == VARIABLE:
+            return len(self.variable_records(area))
         return self.count if self.kind == FIXED else self.records
 
-    def record_start(self, number):
-        """Where in the data area record `number` (from 1) begins.
+    def record(self, area, number):
+        """Where in the data area record `number` (from 1) begins, and its length.
 
         2A: number n in place n - 1. 2E: number 1 is the newest, older ones stand in the places before it; places
-        count from 0, and place 0 follows the last.
+        count from 0, and place 0 follows the last. 2C: number 1 is the oldest.
         """
+        if self.kind == VARIABLE:
+            return self.variable_records(area)[number - 1]
         place = number - 1 if self.kind == FIXED else (self.newest - (number - 1)) % self.count
-        return self.start + place * self.length
+        return self.start + place * self.length, self.length
 
 
 class Card:
@@ -223,16 +247,21 @@ def is_allowed(card, byte):
 
 
 def is_file_shape(kind, size, count, length):
-    """28: 1 to 4,096 bytes. 2A and 2E: 2 to 254 records of 1 to 178 bytes."""
+    """28: 1 to 4,096 bytes. 2A and 2E: 2 to 254 records of 1 to 178 bytes. 2C: a space of 2 to 4,096 bytes."""
     if kind == BINARY:
         return 1 <= size <= 4096
+    if kind == VARIABLE:
+        return 2 <= size <= 4096
     if kind in (FIXED, CYCLIC):
-        return 2 <= count <= 254 and 1 <= length <= 178
+        return 2 <= count <= 254 and 1 <= length <= LONGEST_RECORD
     return False
 
 
-def is_sound(card):
-    """A state is sound when all of "What a card holds" holds of it."""
+def is_sound(card, area):
+    """A state is sound when all of "What a card holds" holds of it, and of its 2C files the lengths in the area too.
+
+    The area has its 4,096 bytes: every call that asks this has checked so before.
+    """
     if len(card.device.value) != 16 or not is_pin(card.admin.value) or not is_pin(card.user.value):
         return False
     for credential in (card.device, card.admin, card.user):
@@ -261,11 +290,16 @@ def is_sound(card):
                 return False
         elif file.records != 0 or file.newest != 0:
             return False
+        if not 0 <= file.used <= (file.size if file.kind == VARIABLE else 0):
+            return False
         if file.start != end:
             return False
         end += file.extent
     if end > AREA_SIZE:
         return False
+    for file in card.files:
+        if file.kind == VARIABLE and file.variable_records(area) is None:
+            return False
 
     if card.current is not None and card.current not in card.files:
         return False
@@ -295,9 +329,11 @@ def issue(area, key, key_limit, admin_pin, admin_limit, user_pin, user_limit):
     return 0, card
 
 
-def reset(card):
-    """Clears rights, current file and challenge only."""
-    if not is_sound(card):
+def reset(card, area):
+    """Clears rights, current file and challenge only. The area is lent to be looked at."""
+    if len(area) != AREA_SIZE:
+        return 2
+    if not is_sound(card, area):
         return 4
     for credential in (card.device, card.admin, card.user):
         credential.held = False
@@ -314,7 +350,7 @@ def command(card, area, sent, random, reply):
         return 2, 0
     if len(random) != 16:
         return 3, 0
-    if not is_sound(card):
+    if not is_sound(card, area):
         return 4, 0
     data, sw = serve(card, area, sent, random)
     written = len(data) + 2
@@ -480,7 +516,7 @@ def update_binary(card, area, frame, random):
     return DONE
 
 
-def find_record(card, frame, case, right_of):
+def find_record(card, area, frame, case, right_of):
     """The checks that READ RECORD and UPDATE RECORD share, up to the number. Gives the SW and the file."""
     sfi = frame.p2 >> 3
     if frame.p1 == 0 or frame.p2 & 0b111 != 0b100 or sfi == 31:
@@ -490,36 +526,36 @@ def find_record(card, frame, case, right_of):
     file = named_file(card, sfi)
     if file is None:
         return 0x6A82, None
-    if file.kind not in (FIXED, CYCLIC):
+    if file.kind not in RECORD_TYPES:
         return 0x6981, None
     if not is_allowed(card, right_of(file)):
         return 0x6982, None
-    if frame.p1 > file.records_held():
+    if frame.p1 > file.records_held(area):
         return 0x6A83, None
     return 0x9000, file
 
 
 def read_record(card, area, frame, random):
-    sw, file = find_record(card, frame, 2, read_right)
+    sw, file = find_record(card, area, frame, 2, read_right)
     if sw != 0x9000:
         return refused(sw)
+    begin, length = file.record(area, frame.p1)
     # Here Le 00 is the whole record.
-    if frame.le != 256 and frame.le != file.length:
-        return refused(0x6C00 | file.length)
+    if frame.le != 256 and frame.le != length:
+        return refused(0x6C00 | length)
     card.current = file
-    begin = file.record_start(frame.p1)
-    return bytes(area[begin:begin + file.length]), 0x9000
+    return bytes(area[begin:begin + length]), 0x9000
 
 
 def update_record(card, area, frame, random):
-    sw, file = find_record(card, frame, 3, write_right)
+    sw, file = find_record(card, area, frame, 3, write_right)
     if sw != 0x9000:
         return refused(sw)
-    if len(frame.data) != file.length:
+    begin, length = file.record(area, frame.p1)
+    if len(frame.data) != length:
         return refused(0x6700)
     card.current = file
-    begin = file.record_start(frame.p1)
-    area[begin:begin + file.length] = frame.data
+    area[begin:begin + length] = frame.data
     return DONE
 
 
@@ -532,19 +568,38 @@ def append_record(card, area, frame, random):
     file = named_file(card, sfi)
     if file is None:
         return refused(0x6A82)
-    if file.kind != CYCLIC:
+    if file.kind not in (VARIABLE, CYCLIC):
         return refused(0x6981)
     if not is_allowed(card, file.write):
         return refused(0x6982)
-    if len(frame.data) != file.length:
-        return refused(0x6700)
+    sw = append_variable(file, area, frame.data) if file.kind == VARIABLE else append_cyclic(file, area, frame.data)
+    if sw != 0x9000:
+        return refused(sw)
+    card.current = file
+    return DONE
+
+
+def append_cyclic(file, area, data):
+    if len(data) != file.length:
+        return 0x6700
     # The new record is number 1; in a full file the oldest goes.
     file.newest = 0 if file.records == 0 else (file.newest + 1) % file.count
     file.records = min(file.records + 1, file.count)
-    begin = file.record_start(1)
-    area[begin:begin + file.length] = frame.data
-    card.current = file
-    return DONE
+    begin, length = file.record(area, 1)
+    area[begin:begin + length] = data
+    return 0x9000
+
+
+def append_variable(file, area, data):
+    if len(data) > LONGEST_RECORD:
+        return 0x6700
+    if file.used + 1 + len(data) > file.size:
+        return 0x6A84
+    # The new record comes after the last, behind its length byte.
+    end = file.start + file.used
+    area[end:end + 1 + len(data)] = bytes((len(data),)) + data
+    file.used += 1 + len(data)
+    return 0x9000
 
 
 def tries_answer(tries):
@@ -638,7 +693,7 @@ def create_file(card, area, frame, random):
         return refused(0x6982)
 
     kind, first, second, read, write = frame.data
-    if kind == BINARY:
+    if kind in (BINARY, VARIABLE):
         size, count, length = first << 8 | second, 0, 0
     else:
         size, count, length = 0, first, second

@@ -21,7 +21,7 @@ ROOT = 0x3F00
 
 GOOD_RIGHTS = ((0x00, 44), (0x01, 11), (0x40, 11), (0x80, 11), (0x41, 4), (0x81, 4), (0xC0, 4), (0xC1, 4), (0x0F, 7))
 BAD_RIGHTS = (0x02, 0x04, 0x08, 0x10, 0x20, 0x0E, 0x0D, 0x1F, 0x4F, 0x8F, 0x03, 0x42, 0x82, 0xC2, 0xFE, 0xFF)
-BAD_TYPES = (0x00, 0x08, 0x27, 0x29, 0x2B, 0x2C, 0x2D, 0x2F, 0x38, 0x6A, 0xAE, 0xFF)
+BAD_TYPES = (0x00, 0x08, 0x27, 0x29, 0x2B, 0x2D, 0x2F, 0x38, 0x6A, 0xAC, 0xAE, 0xFF)
 NOT_DIGITS = (0x00, 0x2F, 0x3A, 0x20, 0x41, 0xB0, 0xB9, 0xFF, 0x0D)
 
 
@@ -361,7 +361,7 @@ class Generator:
 
     def reload_pin(self):
         dice = self.dice
-        if dice.chance(0.08):
+        if dice.chance(0.15):
             self.put(b"RESET")
         elif dice.chance(0.75):
             self.obtain(cards.ADMIN_BIT)
@@ -440,13 +440,22 @@ class Generator:
         """The two bytes of size, or of count and record length, good ones."""
         dice = self.dice
         room = max(self.room(), 1)
+        # Mostly asked for where it is refused: a card with a file of 4,096 bytes has no other.
+        whole = 4096 if self.card.files or dice.chance(0.3) else 60
         if kind == cards.BINARY:
             size = dice.weighted((
                 (dice.between(1, 40), 55), (dice.between(41, 300), 20), (dice.between(301, 1200), 8),
                 (dice.pick((1, 16, 255, 256, 257)), 8), (dice.pick((room, room, room + 1, room - 1)), 6),
-                (dice.pick((4096, 4095)), 3)))
+                (dice.pick((whole, whole, whole - 1)), 5)))
             size = max(1, min(size, 4096))
             return bytes((size >> 8, size & 0xFF))
+        if kind == cards.VARIABLE:
+            # Small spaces get full soon; 179 hold one record of 178, and 512 hold 256 records of 1.
+            space = dice.weighted((
+                (dice.between(2, 30), 40), (dice.between(31, 200), 25), (dice.between(201, 700), 14),
+                (dice.pick((2, 3, 178, 179, 180, 358, 512)), 14), (dice.pick((room, room + 1)), 4), (whole, 7)))
+            space = max(2, min(space, 4096))
+            return bytes((space >> 8, space & 0xFF))
         if dice.chance(0.8):
             return bytes((dice.pick((2, 2, 3, 4, dice.between(2, 12))), dice.pick((1, 2, 8, 16, dice.between(1, 40)))))
         if dice.chance(0.3):
@@ -457,19 +466,21 @@ class Generator:
 
     def bad_contents(self):
         dice = self.dice
-        kind = dice.pick((cards.BINARY, cards.FIXED, cards.CYCLIC))
+        kind = dice.pick((cards.BINARY, cards.FIXED, cards.VARIABLE, cards.CYCLIC))
         contents = bytearray(bytes((kind,)) + self.size_bytes(kind) + bytes((self.rights_byte(), self.rights_byte())))
-        wrong = dice.below(4)
-        if wrong == 0:
+        wrong = dice.weighted((("type", 2), ("right", 2), ("count", 3), ("length", 3)))
+        if wrong == "type":
             contents[0] = dice.pick(BAD_TYPES)
-        elif wrong == 1:
+        elif wrong == "right":
             contents[dice.pick((3, 4))] = dice.pick(BAD_RIGHTS)
         elif kind == cards.BINARY:
-            contents[1:3] = dice.pick((b"\x00\x00", b"\x10\x01", b"\xFF\xFF", b"\x20\x00"))
-        elif wrong == 2:
-            contents[1] = dice.pick((0, 1, 255))
+            contents[1:3] = dice.pick((b"\x00\x00", b"\x00\x00", b"\x10\x01", b"\xFF\xFF", b"\x20\x00"))
+        elif kind == cards.VARIABLE:
+            contents[1:3] = dice.pick((b"\x00\x00", b"\x00\x01", b"\x00\x01", b"\x10\x01", b"\x11\x00", b"\xFF\xFF"))
+        elif wrong == "count":
+            contents[1] = dice.pick((0, 1, 1, 255))
         else:
-            contents[2] = dice.pick((0, 179, 255))
+            contents[2] = dice.pick((0, 179, 179, 255))
         return bytes(contents)
 
     def create(self, log_in=0.93):
@@ -477,8 +488,8 @@ class Generator:
         if dice.chance(log_in):
             self.obtain(cards.DEVICE_BIT)
         fid = self.new_fid()
-        kind = dice.weighted(((cards.BINARY, 35), (cards.FIXED, 25), (cards.CYCLIC, 40)))
-        if dice.chance(0.86):
+        kind = dice.weighted(((cards.BINARY, 30), (cards.FIXED, 18), (cards.VARIABLE, 26), (cards.CYCLIC, 26)))
+        if dice.chance(0.8):
             contents = bytes((kind,)) + self.size_bytes(kind) + bytes((self.rights_byte(), self.rights_byte()))
         else:
             contents = self.bad_contents()
@@ -529,7 +540,7 @@ class Generator:
         if file is not None and file.kind == cards.BINARY:
             sent = case_2("READ BINARY", 0, 0, min(file.size, 256))
         elif file is not None:
-            sent = case_2("READ RECORD", dice.pick((1, max(1, file.records_held()))), 0x04, 0)
+            sent = case_2("READ RECORD", dice.pick((1, min(max(1, self.held(file)), 255))), 0x04, 0)
         self.send(sent)
 
     def a_file(self, kinds):
@@ -560,12 +571,12 @@ class Generator:
 
     def use_file(self):
         self.dice.weighted((
-            (self.read_binary, 20), (self.update_binary, 16), (self.read_record, 26), (self.update_record, 14),
-            (self.append_record, 24)))()
+            (self.read_binary, 17), (self.update_binary, 14), (self.read_record, 28), (self.update_record, 16),
+            (self.append_record, 25)))()
 
     def binary_p(self, sfi, offset):
         dice = self.dice
-        if dice.chance(0.02):
+        if dice.chance(0.04):
             return dice.pick((0x80, 0x9F, 0xA0, 0xC1, 0xFF)), offset & 0xFF
         if sfi == 0:
             return (offset >> 8) & 0x7F, offset & 0xFF
@@ -608,39 +619,69 @@ class Generator:
         if self.dice.chance(0.4):
             self.send(case_2("READ BINARY", p1, p2, length))
 
+    def held(self, file):
+        """How many records a file holds; a binary file counts as one."""
+        return 1 if file.kind == cards.BINARY else file.records_held(self.program.area)
+
+    def record_length(self, file, number):
+        """The length of a record that is held, or else some length."""
+        if file.kind == cards.VARIABLE:
+            return file.record(self.program.area, number)[1] if 1 <= number <= self.held(file) else 1
+        return file.length or 1
+
     def record_number(self, file):
         dice = self.dice
-        held = file.records_held() if file.kind != cards.BINARY else 1
+        held = self.held(file)
+        most = file.count or held
         number = dice.weighted((
-            (dice.between(1, max(held, 1)), 50), (1, 12), (held, 14), (held + 1, 9), (file.count, 5),
-            (file.count + 1, 3), (255, 2), (0, 3)))
+            (dice.between(1, max(held, 1)), 50), (1, 12), (held, 14), (held + 1, 9), (most, 5), (most + 1, 3), (255, 2), (0, 3)))
         return min(number, 255)
 
     def record_p2(self, sfi, low):
-        if self.dice.chance(0.02):
+        if self.dice.chance(0.03):
             return self.dice.pick((0xF8 | low, sfi << 3 | self.dice.below(8), 0))
         return sfi << 3 | low
 
     def read_record(self):
         dice = self.dice
-        file = self.a_file((cards.FIXED, cards.CYCLIC))
+        file = self.a_file(cards.RECORD_TYPES)
         if file is None:
             self.send(case_2("READ RECORD", 1, self.record_p2(dice.below(31), 4), 0))
             return
         if dice.chance(0.7):
             self.obtain(file.read)
         number = self.record_number(file)
-        length = file.length or 1
-        le = dice.weighted(((0, 40), (length, 45), (length + 1, 5), (length - 1, 4), (255, 2), (dice.below(256), 4)))
-        self.send(case_2("READ RECORD", number, self.record_p2(self.name_file(file), 4), le))
+        self.send(case_2("READ RECORD", number, self.record_p2(self.name_file(file), 4), self.record_le(file, number)))
 
-    def record_data(self, file):
-        length = file.length or 1
-        return self.dice.bytes(self.dice.weighted(((length, 90), (length + 1, 4), (max(1, length - 1), 4), (1, 2))))
+    def record_le(self, file, number):
+        """Mostly a good Le; else one beside it, or the length of another record of the file."""
+        dice = self.dice
+        length = self.record_length(file, number)
+        other = self.record_length(file, dice.between(1, max(self.held(file), 1)))
+        return dice.weighted((
+            (0, 38), (length, 36), (other, 9), (length + 1, 7), (length - 1, 5), (255, 2), (dice.below(256), 3)))
+
+    def record_data(self, file, number):
+        """What an UPDATE sends for a record."""
+        dice = self.dice
+        length = self.record_length(file, number)
+        other = self.record_length(file, dice.between(1, max(self.held(file), 1)))
+        return dice.bytes(dice.weighted(((length, 82), (other, 7), (length + 1, 5), (max(1, length - 1), 4), (1, 2))))
+
+    def data_to_append(self, file):
+        """For a 2C file often at an edge: the longest record, or the longest that fits in what is left, or one byte more."""
+        dice = self.dice
+        if file.kind != cards.VARIABLE:
+            return self.record_data(file, 1)
+        left = file.size - file.used
+        length = dice.weighted((
+            (dice.between(1, 12), 36), (dice.between(13, 176), 10), (1, 8), (dice.pick((177, 178)), 9), (179, 6),
+            (dice.pick((180, 255)), 3), (min(left - 1, 178), 12), (min(left - 2, 178), 6), (left, 7), (left + 1, 3)))
+        return dice.bytes(max(1, min(length, 255)))
 
     def update_record(self):
         dice = self.dice
-        file = self.a_file((cards.FIXED, cards.CYCLIC))
+        file = self.a_file(cards.RECORD_TYPES)
         if file is None:
             self.send(case_3("UPDATE RECORD", 1, self.record_p2(dice.below(31), 4), b"\x01"))
             return
@@ -648,20 +689,21 @@ class Generator:
             self.obtain(file.write)
         number = self.record_number(file)
         p2 = self.record_p2(self.name_file(file), 4)
-        self.send(case_3("UPDATE RECORD", number, p2, self.record_data(file)))
+        self.send(case_3("UPDATE RECORD", number, p2, self.record_data(file, number)))
         if dice.chance(0.4):
             self.send(case_2("READ RECORD", number, p2, 0))
 
     def append_record(self):
         dice = self.dice
-        file = self.a_file((cards.CYCLIC,))
+        meant = dice.chance(0.9)
+        file = self.a_file((cards.CYCLIC, cards.VARIABLE) if meant else (cards.BINARY, cards.FIXED))
         if file is None:
             self.send(case_3("APPEND RECORD", 0, self.record_p2(dice.below(31), 0), b"\x01"))
             return
-        if dice.chance(0.7):
+        if meant and dice.chance(0.7):
             self.obtain(file.write)
         p1 = 0 if dice.chance(0.97) else dice.pick((1, 255))
-        self.send(case_3("APPEND RECORD", p1, self.record_p2(self.name_file(file), 0), self.record_data(file)))
+        self.send(case_3("APPEND RECORD", p1, self.record_p2(self.name_file(file), 0), self.data_to_append(file)))
 
     def fill_cyclic(self):
         """Appends past the count, then every number from newest to oldest and one more."""
@@ -678,10 +720,112 @@ class Generator:
             self.send(case_3("APPEND RECORD", 0, file.sfi << 3, dice.bytes(file.length)), spoil=0.01)
         self.read_records(file)
 
+    def fill_variable(self):
+        """Appends to a 2C file until nothing fits, then uses the records at both ends."""
+        dice = self.dice
+        files = [file for file in self.card.files
+                 if file.kind == cards.VARIABLE and (file.size <= 700 or dice.chance(0.1))]
+        if not files:
+            return
+        file = dice.pick(files)
+        self.obtain(file.write)
+        if not cards.is_allowed(self.card, file.write):
+            return
+        # Not so short that it takes too many lines.
+        longest = min(178, max(dice.pick((1, 4, 20, 60, 178)), file.size // 20))
+        while file.size - file.used > longest + 2:
+            self.append_to(file, dice.pick((longest, dice.between(1, longest), dice.between(1, longest))))
+        self.use_full(file)
+
+    def keep_notes(self):
+        """A 2C file of its own for records of many lengths, the longest among them."""
+        dice = self.dice
+        lengths = [dice.pick((1, 2, 177, 178, dice.between(1, 40), dice.between(1, 178))) for _ in range(dice.between(2, 6))]
+        lengths.insert(dice.below(3), dice.pick((1, 177)))
+        lengths.insert(dice.below(3), 178)
+        space = sum(lengths) + len(lengths) + dice.pick((0, 0, 1, 2, 10))
+        free = [sfi for sfi in range(1, 31) if sfi not in [file.sfi for file in self.card.files]]
+        if space > self.room() or len(self.card.files) == cards.MOST_FILES:
+            return
+        self.obtain(cards.DEVICE_BIT)
+        right = dice.pick((0x00, 0x00, 0x01, 0x40, 0x80))
+        self.surely(case_3("CREATE FILE", dice.below(256), dice.below(8) << 5 | dice.pick(free),
+                           bytes((cards.VARIABLE, space >> 8, space & 0xFF, right, right))))
+        file = self.card.current
+        if file is None or file.size != space:
+            return
+        self.obtain(right)
+        for length in lengths:
+            if dice.chance(0.15):
+                self.append_to(file, dice.pick((179, 180, 255)))
+            self.append_to(file, length)
+        self.use_full(file)
+
+    def use_full(self, file):
+        """What a 2C file that is nearly full still takes, then its records."""
+        dice = self.dice
+        left = file.size - file.used
+        # One byte too long, then the last that fits or one that leaves a byte free, then the shortest and the longest.
+        for length, share in ((left, 0.6), (left - dice.pick((1, 1, 1, 2)), 0.9), (1, 0.7), (178, 0.3), (179, 0.4)):
+            if 1 <= length <= 255 and dice.chance(share):
+                self.append_to(file, length)
+        self.use_ends(file)
+        if dice.chance(0.4):
+            self.read_records(file)
+
+    def append_to(self, file, length):
+        """By SFI or, where the file is current already, at times without."""
+        sfi = 0 if self.card.current is file and self.dice.chance(0.5) else file.sfi
+        self.send(case_3("APPEND RECORD", 0, sfi << 3, self.dice.bytes(length)), spoil=0.01)
+
+    def use_ends(self, file):
+        """The first and the last record of a 2C file, and the number past the last; then as if it were binary."""
+        dice = self.dice
+        self.obtain(file.read)
+        held = self.held(file)
+        p2 = file.sfi << 3 | 4
+        for number in (1, held, held + 1):
+            number = max(1, min(number, 255))
+            length = self.record_length(file, number)
+            near = dice.pick((length + 1, max(1, length - 1)))
+            if dice.chance(0.7):
+                self.send(case_2("READ RECORD", number, p2, dice.pick((self.record_le(file, number), near))), spoil=0.01)
+            if dice.chance(0.5):
+                data = dice.pick((self.record_data(file, number), dice.bytes(near)))
+                self.send(case_3("UPDATE RECORD", number, p2, data), spoil=0.01)
+        if dice.chance(0.5):
+            self.send(dice.pick((case_2("READ BINARY", 0x80 | file.sfi, 0, 1),
+                                 case_3("UPDATE BINARY", 0x80 | file.sfi, 0, b"\x01"))), spoil=0.01)
+
+    def pass_255(self):
+        """More records in a 2C file than P1 can name. This takes many lines, so it is not begun near the end."""
+        dice = self.dice
+        if self.most_lines - len(self.lines) < 350:
+            return
+        if not any(file.kind == cards.VARIABLE and file.size >= 520 for file in self.card.files):
+            self.obtain(cards.DEVICE_BIT)
+            self.surely(case_3("CREATE FILE", dice.below(256), dice.between(1, 30),
+                               bytes((cards.VARIABLE, 2, dice.between(8, 60), 0, 0))))
+        for file in self.card.files:
+            left = file.size - file.used
+            if file.kind == cards.VARIABLE and (self.held(file) > 256 or left >= 2 * (257 - self.held(file))):
+                break
+        else:
+            return
+        self.obtain(file.write)
+        if not cards.is_allowed(self.card, file.write):
+            return
+        while self.held(file) <= 256:
+            self.surely(case_3("APPEND RECORD", 0, file.sfi << 3, dice.bytes(1)))
+        for number in (1, 254, 255):
+            p2 = file.sfi << 3 | 4
+            self.surely(case_3("UPDATE RECORD", number, p2, dice.bytes(self.record_length(file, number))))
+            self.surely(case_2("READ RECORD", number, p2, 0))
+
     def read_records(self, file):
         self.obtain(file.read)
         if cards.is_allowed(self.card, file.read):
-            for number in range(1, min(file.records_held() + 1, 255) + 1):
+            for number in range(1, min(self.held(file) + 1, 255) + 1):
                 self.send(case_2("READ RECORD", number, file.sfi << 3 | 4, 0), spoil=0.005)
 
     def read_all(self):
@@ -694,7 +838,7 @@ class Generator:
                     for offset in range(0, file.size, 256):
                         le = min(256, file.size - offset)
                         self.send(case_2("READ BINARY", offset >> 8, offset & 0xFF, le), spoil=0.005)
-            elif file.count <= 30 or self.dice.chance(0.1):
+            elif max(file.count, self.held(file)) <= 30 or self.dice.chance(0.1):
                 self.read_records(file)
 
     # ---------------------------------------------------------------------------------------------------------- noise
@@ -718,7 +862,7 @@ class Generator:
         elif kind == 4:
             # The right instruction in the wrong one of the two classes, or in another.
             cla, ins = dice.pick(tuple(INS.values()))
-            sent = bytes((dice.pick((cla ^ 0x80, cla ^ 0x80, 0x01, 0x90, 0xFF)), ins, 0, 0, 4))
+            sent = bytes((dice.pick((cla ^ 0x80, cla ^ 0x80, 0x01, 0x04, 0x90, 0xFF)), ins, 0, 0, 4))
         elif kind == 5:
             sent = bytes((dice.pick((0, 0x80)), dice.pick((0xC0, 0xCA, 0xD0, 0xE4, 0x22, 0x88, 0x86, 0xFF)), 0, 0))
         elif kind == 6:
@@ -741,7 +885,7 @@ class Generator:
         elif kind in (1, 2):
             fields[dice.pick((1, 3, 5))] = dice.pick((0, 129, 255, 256, 257, 384, 65535))
         elif kind == 3:
-            fields[place] = dice.digits(dice.pick((0, 1, 5, 17, 22, 100)))
+            fields[place] = dice.digits(dice.pick((0, 1, 5, 5, 17, 17, 22, 100)))
         else:
             bad = bytearray(fields[place])
             bad[dice.below(len(bad))] = dice.pick((0x00, 0x0D, 0x20, 0x2F, 0x3A, 0x41, 0x80, 0xB5, 0xFF))
@@ -787,9 +931,9 @@ class Generator:
         if kind in (9, 10):
             # A limit that is no number of the grammar; 0 and 65535 are numbers, and refused with 5.
             limits = [b"3", b"3", b"3"]
-            limits[dice.below(3)] = dice.pick((b"", b"00", b"01", b"003", b"65536", b"99999", b"100000", b"+3", b"-1",
-                                               b"3 ", b" 3", b"3.0", b"0x3", b"A", b"0", b"65535", b"129", b"4294967299",
-                                               b"18446744073709551619"))
+            limits[dice.below(3)] = dice.pick((b"", b"00", b"01", b"003", b"65536", b"65536", b"65536", b"99999", b"100000",
+                                               b"+3", b"-1", b"3 ", b" 3", b"3.0", b"0x3", b"A", b"0", b"65535", b"129",
+                                               b"4294967299", b"18446744073709551619"))
             return b"ISSUE\t%s\t%s\t123456\t%s\t654321\t%s" % (random, *limits)
         if kind == 11:
             # Lines of 1,024 and 1,025 bytes that parse but for their length.
@@ -839,7 +983,7 @@ class Generator:
     def before_a_card(self):
         """Lines before the first good ISSUE."""
         dice = self.dice
-        for _ in range(dice.pick((0, 0, 1, 4))):
+        for _ in range(dice.pick((0, 1, 2, 4))):
             self.put(dice.pick((b"RESET", b"CMD\t00200001\t" + hex_of(dice.bytes(16)), b"CMD\t\t", b"",
                                 self.refused_issue())))
 
@@ -850,6 +994,10 @@ class Generator:
         if dice.chance(0.4):
             # A first file without the device right.
             self.create(log_in=0)
+        if lines >= 100 and dice.chance(0.85):
+            self.keep_notes()
+        if lines >= 800 and dice.chance(0.5):
+            self.pass_255()
         start = dice.weighted(((0, 2), (3, 4), (7, 4), (18, 2)))
         for _ in range(start):
             self.create()
@@ -857,8 +1005,9 @@ class Generator:
             dice.weighted((
                 (self.use_file, 420), (self.show_pin, 130), (self.log_in_device, 55), (self.create, 60),
                 (self.select, 55), (self.change_pin, 28), (self.reload_pin, 26), (self.noise, 26),
-                (self.ask_challenge, 14), (self.fill_cyclic, 11), (self.use_up_tries, 14), (self.read_all, 2),
-                (self.fill_directory, 2), (self.other_line, 60), (self.restart, 14), (self.use_current, 20)))()
+                (self.ask_challenge, 14), (self.fill_cyclic, 11), (self.fill_variable, 14), (self.keep_notes, 3),
+                (self.pass_255, 1), (self.use_up_tries, 14), (self.read_all, 2), (self.fill_directory, 2),
+                (self.other_line, 72), (self.restart, 14), (self.use_current, 20)))()
         self.read_all()
 
     def other_line(self):
@@ -896,20 +1045,26 @@ COUNTS = tuple("63C%X" % left for left in range(16))
 # What each command can answer. "case" and "length" are the two places where 6700 stands in a command's checks.
 EXPECTED = {
     "SELECT": ("9000", "6A86", "6700", "6A82"),
-    "READ BINARY": ("9000 current", "9000 SFI", "6A86", "6700 case", "6A82", "6981", "6982", "6A84", "6700 length"),
-    "UPDATE BINARY": ("9000 current", "9000 SFI", "6A86", "6700 case", "6A82", "6981", "6982", "6A84", "6700 length"),
-    "READ RECORD": ("9000 2A current", "9000 2A SFI", "9000 2E current", "9000 2E SFI", "6A86", "6700 case", "6A82",
-                    "6981", "6982", "6A83", "6Cxx"),
-    "UPDATE RECORD": ("9000 2A current", "9000 2A SFI", "9000 2E current", "9000 2E SFI", "6A86", "6700 case", "6A82",
-                      "6981", "6982", "6A83", "6700 length"),
-    "APPEND RECORD": ("9000 current", "9000 SFI", "9000 full", "6A86", "6700 case", "6A82", "6981", "6982",
-                      "6700 length"),
+    "READ BINARY": ("9000 28 current", "9000 28 SFI", "6A86", "6700 case", "6A82", "6981 2A", "6981 2C", "6981 2E", "6982 28",
+                    "6A84 28", "6700 28 length"),
+    "UPDATE BINARY": ("9000 28 current", "9000 28 SFI", "6A86", "6700 case", "6A82", "6981 2A", "6981 2C", "6981 2E", "6982 28",
+                      "6A84 28", "6700 28 length"),
+    "READ RECORD": ("9000 2A current", "9000 2A SFI", "9000 2C current", "9000 2C SFI", "9000 2E current", "9000 2E SFI",
+                    "6A86", "6700 case", "6A82", "6981 28", "6982 2A", "6982 2C", "6982 2E", "6A83 2A", "6A83 2C", "6A83 2E",
+                    "6Cxx 2A", "6Cxx 2C", "6Cxx 2E"),
+    "UPDATE RECORD": ("9000 2A current", "9000 2A SFI", "9000 2C current", "9000 2C SFI", "9000 2E current", "9000 2E SFI",
+                      "6A86", "6700 case", "6A82", "6981 28", "6982 2A", "6982 2C", "6982 2E", "6A83 2A", "6A83 2C", "6A83 2E",
+                      "6700 2A length", "6700 2C length", "6700 2E length"),
+    "APPEND RECORD": ("9000 2C current", "9000 2C SFI", "9000 2C last byte", "9000 2E current", "9000 2E SFI", "9000 2E full",
+                      "6A86", "6700 case", "6A82", "6981 28", "6981 2A", "6982 2C", "6982 2E", "6700 2C length",
+                      "6700 2E length", "6A84 2C", "6A84 2C by one"),
     "VERIFY": ("9000", "6A86", "6700", "6983", "6A80") + COUNTS,
     "VERIFY query": ("9000", "6A86", "6983") + COUNTS[1:],
     "EXTERNAL AUTHENTICATE": ("9000", "6A86", "6700", "6983", "6984") + COUNTS,
     "CHANGE PIN": ("9000", "6A86", "6700", "6982", "6A80"),
     "RELOAD PIN": ("9000", "6A86", "6700", "6982", "6A80"),
-    "CREATE FILE": ("9000 28", "9000 2A", "9000 2E", "6A86", "6700", "6982", "6A80", "6986", "6A84 files", "6A84 room"),
+    "CREATE FILE": ("9000 28", "9000 2A", "9000 2C", "9000 2E", "6A86", "6700", "6982", "6A80", "6986", "6A84 files",
+                    "6A84 room"),
     "GET CHALLENGE": ("9000", "6A86", "6700"),
     "(broken frame)": ("6700",),
     "(other class)": ("6E00",),
@@ -924,15 +1079,20 @@ class Report:
         self.outcomes = Counter()
         self.pairs = defaultdict(Counter)
         self.full_before = {}
+        # How often a 2C record of each length was read, and the highest number that was.
+        self.lengths = Counter()
+        self.highest = 0
 
     def watch(self, program, line, answer):
-        outcome, _, sw = answer
+        outcome, data, sw = answer
         self.outcomes[line.split(b"\t")[0].decode("latin-1") if outcome != 9 else "(line)", outcome] += 1
         if sw is not None:
             name, label = self.labels(program, script.bytes_of(line.split(b"\t")[1]), sw)
             self.pairs[name][label] += 1
+            if name == "READ RECORD" and label.startswith("9000 2C"):
+                self.lengths[len(data)] += 1
         if program.card is not None:
-            self.full_before = {file: file.records == file.count for file in program.card.files}
+            self.full_before = {file: file.records == file.count for file in program.card.files if file.kind == cards.CYCLIC}
 
     def labels(self, program, sent, sw):
         frame = cards.frame_of(sent)
@@ -946,17 +1106,7 @@ class Report:
             return "(not in the list)", label
         file = program.card.current
         if name in FILE_COMMANDS:
-            if sw == 0x9000:
-                sfi = frame.p1 & 0x80 if "BINARY" in name else frame.p2 >> 3
-                if "RECORD" in name and name != "APPEND RECORD":
-                    label += " %02X" % file.kind
-                label += " SFI" if sfi else " current"
-                if name == "APPEND RECORD" and self.full_before.get(file):
-                    label = "9000 full"
-            elif sw == 0x6700:
-                label += " length" if frame.case == (2 if name.startswith("READ") else 3) else " case"
-            elif sw & 0xFF00 == 0x6C00:
-                label = "6Cxx"
+            return name, self.file_label(program.card, name, frame, sw)
         elif name == "VERIFY" and frame.case == 1:
             name = "VERIFY query"
         elif name == "CREATE FILE" and sw == 0x9000:
@@ -964,6 +1114,31 @@ class Report:
         elif name == "CREATE FILE" and sw == 0x6A84:
             label += " files" if len(program.card.files) == cards.MOST_FILES else " room"
         return name, label
+
+    def file_label(self, card, name, frame, sw):
+        """The SW, where a file was found its type, and what parts one cause of the SW from another."""
+        label = "%04X" % sw if sw & 0xFF00 != 0x6C00 else "6Cxx"
+        if sw == 0x6700 and frame.case != (2 if name.startswith("READ") else 3):
+            return label + " case"
+        if sw in (0x6A86, 0x6A82):
+            return label
+        # The file that was named: a refused command changes none, and one that ends 9000 makes it current.
+        sfi = (frame.p1 & 0x1F if frame.p1 & 0x80 else 0) if "BINARY" in name else frame.p2 >> 3
+        file = card.current if sw == 0x9000 else cards.named_file(card, sfi)
+        label += " %02X" % file.kind
+        if name == "READ RECORD" and sw == 0x9000 and file.kind == cards.VARIABLE:
+            self.highest = max(self.highest, frame.p1)
+        if name == "APPEND RECORD" and sw == 0x9000 and self.full_before.get(file):
+            return label + " full"
+        if name == "APPEND RECORD" and sw == 0x9000 and file.kind == cards.VARIABLE and file.used == file.size:
+            return label + " last byte"
+        if sw == 0x9000:
+            return label + (" SFI" if sfi else " current")
+        if sw == 0x6700:
+            return label + " length"
+        if name == "APPEND RECORD" and sw == 0x6A84 and len(frame.data) == file.size - file.used:
+            return label + " by one"
+        return label
 
     def show(self, lines):
         """Prints the counts; gives whether every answer that a command can give was reached."""
@@ -978,6 +1153,8 @@ class Report:
             missing += ["%s %s" % (name, label) for label in expected if not reached[label]]
             unexpected = sorted(set(reached) - set(expected))
             missing += ["%s %s is not in the table" % (name, label) for label in unexpected]
+        print("2C records read: %d lengths, %s; the highest number is %d" % (
+            len(self.lengths), ", ".join("%d of %d" % (self.lengths[length], length) for length in (1, 177, 178)), self.highest))
         for entry in missing:
             print("MISSING: " + entry)
         return not missing

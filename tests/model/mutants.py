@@ -1,10 +1,13 @@
 """Checks that generated scripts notice errors: python3 tests/model/mutants.py
 
-Each entry changes one place of the model, as someone might misread the paper. The changed model then runs generated
+Each entry changes one place of the model, as someone might misread the papers. The changed model then runs generated
 scripts; a test passes when its output differs from the true model's. So a program with that error would be caught by
-tests/model/compare.py within the lines printed at the end.
+tests/model/compare.py within the lines printed at the end. Errors in calls that a script cannot make, or in bytes that it
+cannot see, are put before the self-test instead.
 """
 
+import contextlib
+import io
 import os
 import sys
 import types
@@ -15,7 +18,7 @@ import script
 SCRIPTS = 10
 LINES = 2000
 
-CARD, SCRIPT = "card.py", "script.py"
+CARD, SCRIPT, SELFTEST = "card.py", "script.py", "selftest.py"
 
 MUTANTS = (
     # Errors that look right.
@@ -52,8 +55,8 @@ MUTANTS = (
     (CARD, "return 1 <= size <= 4096", "return 1 <= size", "a size over 4,096 is 6A84"),
     (CARD, "return 2 <= count <= 254 and", "return 1 <= count <= 254 and", "one record"),
     (CARD, "return 2 <= count <= 254 and", "return 2 <= count <= 255 and", "255 records"),
-    (CARD, "1 <= length <= 178", "0 <= length <= 178", "records of no bytes"),
-    (CARD, "1 <= length <= 178", "1 <= length <= 179", "records of 179 bytes"),
+    (CARD, "254 and 1 <= length <= LONGEST_RECORD", "254 and 0 <= length <= LONGEST_RECORD", "records of no bytes"),
+    (CARD, "254 and 1 <= length <= LONGEST_RECORD", "254 and 1 <= length <= 179", "records of 179 bytes"),
     (CARD, "return self.count if self.kind == FIXED else self.records", "return self.count", "an empty 2E file holds all"),
     (CARD, "place = number - 1 if self.kind == FIXED else (self.newest", "place = (self.newest",
      "2A places in the order of 2E (no script can tell: places do not show)"),
@@ -118,28 +121,104 @@ MUTANTS = (
      "record number 0"),
     (CARD, "frame.p2 & 0b111 != 0b100 or sfi == 31", "frame.p2 & 0b100 == 0 or sfi == 31", "P2 low bits 101"),
     (CARD, "frame.p2 & 0b111 != 0b100 or sfi == 31", "frame.p2 & 0b111 != 0b100", "SFI 31 is 6A82"),
-    (CARD, "if frame.p1 > file.records_held():", "if frame.p1 > file.records_held() + 1:", "one number more"),
-    (CARD, "if frame.p1 > file.records_held():", "if frame.p1 > file.count:", "number by the count"),
-    (CARD, "if frame.le != 256 and frame.le != file.length:", "if frame.le != file.length:", "no Le 00"),
-    (CARD, "if frame.le != 256 and frame.le != file.length:", "if frame.le < file.length:", "a longer Le"),
-    (CARD, "return refused(0x6C00 | file.length)", "return refused(0x6700)", "6700 in the place of 6C"),
-    (CARD, "        return refused(0x6C00 | file.length)\n    card.current = file\n",
-     "        return refused(0x6C00 | file.length)\n", "READ RECORD by SFI keeps the current file"),
-    (CARD, "    card.current = file\n    begin = file.record_start(frame.p1)\n    area", "    begin = file.record_start(frame.p1)\n    area",
+    (CARD, "if frame.p1 > file.records_held(area):", "if frame.p1 > file.records_held(area) + (file.kind != VARIABLE):",
+     "one number more"),
+    (CARD, "if frame.p1 > file.records_held(area):", "if frame.p1 > (file.count or file.records_held(area)):",
+     "number by the count"),
+    (CARD, "if frame.le != 256 and frame.le != length:", "if frame.le != length:", "no Le 00"),
+    (CARD, "if frame.le != 256 and frame.le != length:", "if frame.le < length:", "a longer Le"),
+    (CARD, "return refused(0x6C00 | length)", "return refused(0x6700)", "6700 in the place of 6C"),
+    (CARD, "        return refused(0x6C00 | length)\n    card.current = file\n",
+     "        return refused(0x6C00 | length)\n", "READ RECORD by SFI keeps the current file"),
+    (CARD, "    card.current = file\n    area[begin:begin + length] = frame.data", "    area[begin:begin + length] = frame.data",
      "UPDATE RECORD by SFI keeps the current file"),
-    (CARD, "find_record(card, frame, 3, write_right)", "find_record(card, frame, 3, read_right)", "UPDATE RECORD by the read right"),
+    (CARD, "find_record(card, area, frame, 3, write_right)", "find_record(card, area, frame, 3, read_right)",
+     "UPDATE RECORD by the read right"),
     (CARD, "if not is_allowed(card, file.write):", "if not is_allowed(card, file.read):", "APPEND by the read right"),
-    (CARD, "    if file.kind != CYCLIC:\n        return refused(0x6981)\n    if not is_allowed(card, file.write):\n"
+    (CARD, "    if file.kind not in (VARIABLE, CYCLIC):\n        return refused(0x6981)\n    if not is_allowed(card, file.write):\n"
      "        return refused(0x6982)\n",
-     "    if not is_allowed(card, file.write):\n        return refused(0x6982)\n    if file.kind != CYCLIC:\n"
+     "    if not is_allowed(card, file.write):\n        return refused(0x6982)\n    if file.kind not in (VARIABLE, CYCLIC):\n"
      "        return refused(0x6981)\n", "APPEND checks the right before the type"),
     (CARD, "file.newest = 0 if file.records == 0 else (file.newest + 1) % file.count",
      "file.newest = (file.newest + 1) % file.count", "place 1 first (no script can tell: places do not show)"),
     (CARD, "file.newest = 0 if file.records == 0 else (file.newest + 1) % file.count", "file.newest = file.records % file.count",
      "the place by the number held"),
     (CARD, "min(file.records + 1, file.count)", "min(file.records + 1, file.count - 1)", "a file that is never full"),
-    (CARD, "    area[begin:begin + file.length] = frame.data\n    card.current = file\n", "    area[begin:begin + file.length] = frame.data\n",
+    (CARD, "    card.current = file\n    return DONE\n\n\ndef append_cyclic", "    return DONE\n\n\ndef append_cyclic",
      "APPEND by SFI keeps the current file"),
+    # Records of different lengths.
+    (CARD, "return 2 <= size <= 4096", "return 1 <= size <= 4096", "a space of 1"),
+    (CARD, "return 2 <= size <= 4096", "return 3 <= size <= 4096", "no space of 2"),
+    (CARD, "return 2 <= size <= 4096", "return 2 <= size <= 4095", "no space of 4,096"),
+    (CARD, "return 2 <= size <= 4096", "return 2 <= size", "a space over 4,096 is 6A84"),
+    (CARD, "    if kind in (BINARY, VARIABLE):\n        size", "    if kind == BINARY:\n        size",
+     "a space given as count and length"),
+    (CARD, "        size, count, length = first << 8 | second, 0, 0\n",
+     "        size, count, length = second << 8 | first if kind == VARIABLE else first << 8 | second, 0, 0\n",
+     "a space with its low byte first"),
+    (CARD, "    if file.kind not in (VARIABLE, CYCLIC):", "    if file.kind != CYCLIC:", "no APPEND to 2C"),
+    (CARD, "if file.kind not in RECORD_TYPES:", "if file.kind not in (FIXED, CYCLIC):", "no READ and UPDATE RECORD of 2C"),
+    (CARD, "    if file.kind != BINARY:\n        return 0x6981", "    if file.kind not in (BINARY, VARIABLE):\n        return 0x6981",
+     "2C read and updated as binary"),
+    (CARD, "file.used += 1 + len(data)", "file.used += len(data)", "the length byte forgotten in the used bytes"),
+    (CARD, "if file.used + 1 + len(data) > file.size:", "if file.used + len(data) > file.size:", "room without the length byte"),
+    (CARD, "if file.used + 1 + len(data) > file.size:", "if file.used + 1 + len(data) >= file.size:", "the last byte never used"),
+    (CARD, "if file.used + 1 + len(data) > file.size:", "if file.used + 1 + len(data) > AREA_SIZE - file.start:",
+     "room in the area in the place of the file's"),
+    (CARD, "if file.used + 1 + len(data) > file.size:", "if file.used + 1 + LONGEST_RECORD > file.size:",
+     "room for the longest record asked for"),
+    (CARD, "    if len(data) > LONGEST_RECORD:\n        return 0x6700\n    if file.used",
+     "    if len(data) > LONGEST_RECORD and file.used + 1 + len(data) <= file.size:\n        return 0x6700\n    if file.used",
+     "6A84 before 6700"),
+    (CARD, "    if len(data) > LONGEST_RECORD:\n        return 0x6700\n", "", "a record over 178 is 6A84"),
+    (CARD, "if len(data) > LONGEST_RECORD:", "if len(data) > LONGEST_RECORD + 1:", "a record of 179"),
+    (CARD, "if len(data) > LONGEST_RECORD:", "if len(data) >= LONGEST_RECORD:", "no record of 178"),
+    (CARD, "    if file.used + 1 + len(data) > file.size:\n        return 0x6A84\n",
+     "    while file.used + 1 + len(data) > file.size:\n        if file.used == 0:\n            return 0x6A84\n"
+     "        gone = 1 + area[file.start]\n        file.used -= gone\n"
+     "        area[file.start:file.start + file.used] = area[file.start + gone:file.start + gone + file.used]\n",
+     "in a full 2C file the oldest goes"),
+    (CARD, "    if file.used + 1 + len(data) > file.size:\n",
+     "    if file.used + 1 + len(data) > file.size or file.records_held(area) == 255:\n", "at most 255 records"),
+    (CARD, "return len(self.variable_records(area))", "return len(self.variable_records(area)) & 0xFF", "the records held in a byte"),
+    (CARD, "return len(self.variable_records(area))", "return min(len(self.variable_records(area)), 254)", "no number 255 in 2C"),
+    (CARD, "return len(self.variable_records(area))", "return len(self.variable_records(area)) - (self.used == self.size)",
+     "the last record of a full 2C file is lost"),
+    (CARD, "self.variable_records(area)[number - 1]", "self.variable_records(area)[-number]", "number 1 of 2C is the newest"),
+    (CARD, "found.append((place + 1, length))", "found.append((place, length))", "a record read from its length byte on"),
+    (CARD, "found.append((place + 1, length))", "found.append((place + 1, area[self.start]))", "all records as long as the first"),
+    (CARD, "return refused(0x6C00 | length)", "return refused(0x6C00 | file.record(area, 1)[1])", "6C with the first record's length"),
+    (CARD, "return refused(0x6C00 | length)", "return refused(0x6C00 | file.record(area, file.records_held(area))[1])",
+     "6C with the last record's length"),
+    (CARD, "return refused(0x6C00 | length)", "return refused(0x6C00 | length + (file.kind == VARIABLE))",
+     "6C with the length byte counted"),
+    (CARD, "if frame.le != 256 and frame.le != length:", "if frame.le != 256 and frame.le != length and file.kind != VARIABLE:",
+     "any Le for 2C"),
+    (CARD, "    if len(frame.data) != length:\n        return refused(0x6700)\n    card.current = file\n    area",
+     "    if len(frame.data) > length:\n        return refused(0x6700)\n    length = len(frame.data)\n    card.current = file\n    area",
+     "UPDATE with less than the record"),
+    (CARD, "    if len(frame.data) != length:\n        return refused(0x6700)\n    card.current = file\n",
+     "    if len(frame.data) != length and file.kind != VARIABLE:\n        return refused(0x6700)\n    card.current = file\n"
+     "    if len(frame.data) != length:\n        rest = area[begin + length:file.start + file.used]\n"
+     "        if file.used - length + len(frame.data) > file.size or len(frame.data) > LONGEST_RECORD:\n"
+     "            return refused(0x6700)\n        file.used += len(frame.data) - length\n"
+     "        changed = bytes((len(frame.data),)) + frame.data + rest\n"
+     "        area[begin - 1:begin - 1 + len(changed)] = changed\n        return DONE\n",
+     "UPDATE takes any length and moves the rest"),
+    (CARD, "    card.current = file\n    return DONE\n\n\ndef append_cyclic",
+     "    card.current = file if file.kind == CYCLIC else card.current\n    return DONE\n\n\ndef append_cyclic",
+     "APPEND to 2C by SFI keeps the current file"),
+    (CARD, "    sw = append_variable(file", "    card.current = file\n    sw = append_variable(file",
+     "an APPEND that is refused by length or room makes its file current"),
+    (CARD, "    card.current = None\n    card.challenge = NO_CHALLENGE\n    return 0",
+     "    for file in card.files:\n        file.used = 0\n    card.current = None\n    card.challenge = NO_CHALLENGE\n    return 0",
+     "a reset that empties the 2C files"),
+    (CARD, "    area[start:start + file.extent] = bytes(file.extent)\n",
+     "    if kind != VARIABLE:\n        area[start:start + file.extent] = bytes(file.extent)\n",
+     "a new 2C file that is not cleared (no script can tell: free bytes do not show)"),
+    (CARD, "    file.used += 1 + len(data)\n",
+     "    file.used += 1 + len(data)\n    area[file.start + file.used:file.start + file.size] = bytes(file.size - file.used)\n",
+     "an APPEND that clears what is free (no script can tell: free bytes do not show)"),
     # Credentials.
     (CARD, "min(tries, 15)", "tries & 15", "tries modulo 16"),
     (CARD, "min(tries, 15)", "min(tries, 14)", "at most 14"),
@@ -203,17 +282,50 @@ MUTANTS = (
      "RESET before a card is 4"),
 )
 
+# Errors in what no script shows: unsound states, a lent area of another size, free bytes. The self-test must notice them.
+UNSHOWN = (
+    (CARD, "        if file.kind == VARIABLE and file.variable_records(area) is None:", "        if False:",
+     "soundness without the lengths of 2C"),
+    (CARD, "            if not 1 <= length <= LONGEST_RECORD:", "            if length > LONGEST_RECORD:", "a sound length of 0"),
+    (CARD, "            if not 1 <= length <= LONGEST_RECORD:", "            if not 1 <= length <= LONGEST_RECORD + 1:",
+     "a sound length of 179"),
+    (CARD, "            if not 1 <= length <= LONGEST_RECORD:", "            if not 1 <= length < LONGEST_RECORD:",
+     "a length of 178 that is not sound"),
+    (CARD, "return found if place == end else None", "return found", "a last record that ends in the free bytes"),
+    (CARD, "return found if place == end else None",
+     "return found if place == end and not any(area[end:self.start + self.size]) else None", "free bytes that must be 00"),
+    (CARD, "if not 0 <= file.used <= (file.size if file.kind == VARIABLE else 0):", "if not 0 <= file.used <= file.size:",
+     "used bytes in a binary file"),
+    (CARD, "if not 0 <= file.used <= (file.size if file.kind == VARIABLE else 0):", "if file.kind != VARIABLE and file.used != 0:",
+     "more used bytes than the space has"),
+    (CARD, "elif file.records != 0 or file.newest != 0:", "elif file.kind != VARIABLE and (file.records != 0 or file.newest != 0):",
+     "a 2C file with a number of records held"),
+    (CARD, "        return 2\n    if not is_sound(card, area):\n        return 4\n",
+     "        return 2\n    if not is_sound(card, bytes(AREA_SIZE)):\n        return 4\n", "a reset that does not look at the area"),
+    (CARD, "    if len(area) != AREA_SIZE:\n        return 2\n    if not is_sound", "    if not is_sound",
+     "a reset that takes an area of any size"),
+    (CARD, "    if len(area) != AREA_SIZE:\n        return 2\n    if not is_sound(card, area):\n        return 4\n",
+     "    if not is_sound(card, area.ljust(AREA_SIZE)):\n        return 4\n    if len(area) != AREA_SIZE:\n        return 2\n",
+     "a reset that checks 4 before 2"),
+    (CARD, "    area[start:start + file.extent] = bytes(file.extent)\n",
+     "    if kind != VARIABLE:\n        area[start:start + file.extent] = bytes(file.extent)\n", "a new 2C file that is not cleared"),
+    (CARD, "    file.used += 1 + len(data)\n",
+     "    file.used += 1 + len(data)\n    area[file.start + file.used:file.start + file.size] = bytes(file.size - file.used)\n",
+     "an APPEND that clears what is free"),
+)
+SELFTESTS = ("test_calls", "test_variable_soundness", "test_variable_space")
+
 # Errors with these words change nothing that a script can show, and must not be noticed. They stand in the list because
 # they name what only proofs, and not scripts, can hold the program to.
 CANNOT_SHOW = "no script can tell"
 
 
 def mutated(file, old, new):
-    """The `run` of the script program with one place of one source changed."""
+    """Card, script program and self-test with one place of one source changed, by the names of their sources."""
     here = os.path.dirname(os.path.abspath(__file__))
     modules = {}
-    true_card = sys.modules["card"]
-    for name in (CARD, SCRIPT):
+    true_modules = {name: sys.modules[name] for name in ("card", "script")}
+    for name in (CARD, SCRIPT, SELFTEST):
         with open(os.path.join(here, name), encoding="utf-8") as source:
             text = source.read()
         if name == file:
@@ -222,12 +334,11 @@ def mutated(file, old, new):
             text = text.replace(old, new)
         modules[name] = types.ModuleType(name[:-3])
         try:
-            if name == SCRIPT:
-                sys.modules["card"] = modules[CARD]
+            sys.modules.update({known[:-3]: modules[known] for known in (CARD, SCRIPT) if known in modules and known != name})
             exec(compile(text, name, "exec"), modules[name].__dict__)
         finally:
-            sys.modules["card"] = true_card
-    return modules[SCRIPT].run
+            sys.modules.update(true_modules)
+    return modules
 
 
 def lines_until_noticed(run, tests):
@@ -245,6 +356,16 @@ def lines_until_noticed(run, tests):
     return None
 
 
+def fails_selftest(selftest):
+    with contextlib.redirect_stdout(io.StringIO()):
+        for name in SELFTESTS:
+            try:
+                getattr(selftest, name)()
+            except Exception:  # As above.
+                return True
+    return selftest.failed > 0
+
+
 def main():
     tests = []
     for seed in range(1, SCRIPTS + 1):
@@ -252,7 +373,7 @@ def main():
         tests.append((lines, script.run(lines)))
     passed, failed, needed = 0, 0, []
     for file, old, new, error in MUTANTS:
-        noticed = lines_until_noticed(mutated(file, old, new), tests)
+        noticed = lines_until_noticed(mutated(file, old, new)[SCRIPT].run, tests)
         if CANNOT_SHOW in error:
             as_expected = noticed is None
         else:
@@ -263,6 +384,12 @@ def main():
         else:
             failed += 1
             print("FAILED: %s: noticed after %s lines" % (error, noticed))
+    for file, old, new, error in UNSHOWN:
+        if fails_selftest(mutated(file, old, new)[SELFTEST]):
+            passed += 1
+        else:
+            failed += 1
+            print("FAILED: %s: not noticed by the self-test" % error)
     needed.sort()
     print("noticed after %d lines in the middle, the slowest after %d: %s" % (needed[len(needed) // 2][0], *needed[-1]))
     print("%d passed, %d failed" % (passed, failed))

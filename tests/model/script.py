@@ -77,7 +77,7 @@ class Program:
     def reset(self):
         if self.card is None:
             return NOT_A_RECORD
-        return cards.reset(self.card), b"", None
+        return cards.reset(self.card, self.area), b"", None
 
 
 def output_line(number, answer):

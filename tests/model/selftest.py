@@ -1,6 +1,6 @@
-"""Checks the model itself against document 01: python3 tests/model/selftest.py
+"""Checks the model itself against document 01 and request R-1 of document 02: python3 tests/model/selftest.py
 
-The expected answers are worked out from the paper.
+The expected answers are worked out from the papers.
 """
 
 import sys
@@ -212,7 +212,16 @@ def test_calls():
     check("random of 15", call(cards.Card(), random=15), (3, *refused))
     check("random of 17", call(state(), random=17), (3, *refused))
     check("a blank state", call(cards.Card()), (4, *refused))
-    check("reset of a blank state", cards.reset(cards.Card()), 4)
+    check("reset of a blank state", cards.reset(cards.Card(), bytearray(4096)), 4)
+    for size in (0, 4095, 4097):
+        made = state()
+        cards.command(made, area, bytes.fromhex("0084000004"), bytes(16), bytearray(258))
+        before = snapshot(made)
+        check("reset with an area of %d" % size, (cards.reset(made, bytearray(size)), snapshot(made)), (2, before))
+        check("reset checks an area of %d first" % size, cards.reset(cards.Card(), bytearray(size)), 2)
+    marked = bytearray(b"\xAA" * 4096)
+    check("reset", cards.reset(state(), marked), 0)
+    check("reset leaves the area", bytes(marked), b"\xAA" * 4096)
 
     reply = bytearray(b"\x55" * 300)
     made = state()
@@ -240,9 +249,11 @@ def test_calls():
     session.send("80E00001 05 2800100000")
     session.send("80E00002 05 2A02010000")
     session.send("80E00003 05 2E02010000")
-    held = session.program.card
-    check("a sound state", cards.is_sound(held), True)
-    binary, fixed, cyclic = held.files
+    session.send("80E00005 05 2C00080000")
+    session.send("00E2000003 010202")
+    held, area = session.program.card, session.program.area
+    check("a sound state", cards.is_sound(held, area), True)
+    binary, fixed, cyclic, variable = held.files
     stranger = cards.File(0x0004, 0x28, 1, 0, 0, 0, 0, 0)
     for owner, field, value in (
             (held.device, "value", bytes(15)), (held.admin, "value", b"12345"), (held.user, "value", b"12345A"),
@@ -252,13 +263,254 @@ def test_calls():
             (binary, "newest", 1), (fixed, "records", 1), (fixed, "newest", 1), (fixed, "count", 1), (fixed, "count", 255),
             (fixed, "length", 0), (fixed, "length", 179), (cyclic, "records", 3), (cyclic, "newest", 2),
             (cyclic, "newest", 1), (binary, "read", 0x02), (cyclic, "write", 0x8F), (cyclic, "start", 19),
+            (binary, "used", 1), (fixed, "used", 1), (cyclic, "used", 1), (variable, "records", 1), (variable, "newest", 1),
+            (variable, "used", -1), (variable, "used", 1), (variable, "used", 2), (variable, "used", 3), (variable, "used", 5),
+            (variable, "used", 9), (variable, "size", 1), (variable, "size", 3), (variable, "size", 4097),
+            (variable, "start", 21), (variable, "read", 0x02), (variable, "fid", 0x0001),
             (held, "current", stranger), (held, "challenge", bytes(5)), (held, "files", [binary] * 17)):
         kept = getattr(owner, field)
         setattr(owner, field, value)
-        check("unsound with %s %r" % (field, value), cards.is_sound(held), False)
+        check("unsound with %s %r" % (field, value), cards.is_sound(held, area), False)
         setattr(owner, field, kept)
     cyclic.records, cyclic.newest = 1, 1
-    check("newest may be any place, also when not full", cards.is_sound(held), True)
+    check("newest may be any place, also when not full", cards.is_sound(held, area), True)
+
+
+def test_variable_soundness():
+    def card_with(used):
+        """A 2C file of 400 bytes from byte 16 of the area on, so many of them used."""
+        session = device_session()
+        session.send("80E00001 05 2800100000")
+        session.send("80E00002 05 2C01900000")
+        session.program.card.files[1].used = used
+        return session
+
+    for name, used, content, expected in (
+            ("no record", 0, "", True), ("free bytes that look like no record", 0, "00" * 400, True),
+            ("free bytes that look like a long record", 0, "FF" * 400, True),
+            ("the shortest record", 2, "01AA", True), ("a used byte without a record", 1, "01AA", False),
+            ("half a record", 2, "02AABB", False), ("a record and a half", 4, "01AA02BBCC", False),
+            ("length 0", 2, "0000", False), ("length 0 behind a record", 3, "01AA00", False),
+            ("length 0 before a record", 3, "0001AA", False), ("length 1 at the end, without its byte", 3, "01AA01", False),
+            ("a record of 178", 179, "B2" + "AA" * 178, True), ("a record of 179", 180, "B3" + "AA" * 179, False),
+            ("a record of 178 and one of 1", 181, "B2" + "AA" * 178 + "01BB", True),
+            ("a length one too small", 5, "03AABBCCDD", False), ("a length one too large", 5, "05AABBCCDD", False),
+            ("two records", 5, "01AA02BBCC", True), ("two records, the first one longer", 5, "02AABB02CC", False),
+            ("a length that ends in the free bytes", 5, "01AA03BBCCDD", False),
+            ("all used, in lengths of 199", 400, "C7" + "AA" * 199 + "C7" + "BB" * 199, False),
+            ("all used, in lengths up to 178", 400, "B2" + "AA" * 178 + "B2" + "BB" * 178 + "29" + "CC" * 41, True)):
+        session = card_with(used)
+        program = session.program
+        content = bytes.fromhex(content)
+        program.area[16:16 + len(content)] = content
+        # What stands behind the used bytes is free, in the file and after it.
+        program.area[16 + max(used, len(content)):] = b"\xEE" * (4096 - 16 - max(used, len(content)))
+        area = bytes(program.area)
+        before = snapshot(program.card)
+        check("sound: " + name, cards.is_sound(program.card, program.area), expected)
+        check("served: " + name, session.send("00A40000020001"), "9000" if expected else "4")
+        if not expected:
+            check("left as it was: " + name, (bytes(program.area), snapshot(program.card)), (area, before))
+            check("an area of 4,095 first: " + name, cards.reset(program.card, program.area[:-1]), 2)
+        check("reset: " + name, session.reset(), "0" if expected else "4")
+        check("the area is only looked at: " + name, bytes(program.area), area)
+        if not expected:
+            check("no reset: " + name, snapshot(program.card), before)
+
+    # The last of three 2C files, at the end of the area: 4,000 and 3 times 32 bytes are 4,096.
+    for length, expected in ((31, True), (30, False), (32, False), (178, False), (255, False)):
+        session = device_session()
+        session.send("80E00001 05 280FA00000")
+        for sfi in (2, 3, 4):
+            session.send("80E0000%d 05 2C00200000" % sfi)
+            session.send("00E200001F" + "AA" * 31)
+        session.program.area[4064] = length
+        check("length %d at the end of the area" % length, (session.send("00B2011400"), session.reset()),
+              ("AA" * 31 + " 9000", "0") if expected else ("4", "4"))
+
+    # A length byte counts for soundness only where it is a used byte of a 2C file.
+    session = card_with(0)
+    session.send("00E2001002 AABB")
+    session.program.area[:16] = b"\xFF" * 16
+    session.program.area[16 + 3:] = b"\xFF" * (4096 - 19)
+    check("any bytes but the used ones", session.send("00B2011400"), "AABB 9000")
+    check("append into free bytes that are not 00", session.send("00E2001001 CC"), "9000")
+    check("only its own bytes are written", session.program.area[16:24].hex().upper(), "02AABB01CCFFFFFF")
+
+
+def test_variable_space():
+    session = device_session()
+    for sent, expected in (
+            ("80E00001 05 2C00000000", "6A80"), ("80E00001 05 2C00010000", "6A80"), ("80E00001 05 2C10010000", "6A80"),
+            ("80E00001 05 2C20000000", "6A80"), ("80E00001 05 2CFFFF0000", "6A80"), ("80E00001 05 2C00020200", "6A80"),
+            ("80E00001 05 2C00020010", "6A80"), ("80E00001 05 2B00020000", "6A80"), ("80E00001 05 2D00020000", "6A80"),
+            ("80E00001 04 2C000200", "6700"), ("80E00000 05 2C00020000", "6A86"),
+            ("80E01021 05 2C00020000", "9000"), ("80E00001 05 2C00020000", "6986"), ("80E00001 05 2C00010000", "6A80"),
+            ("80E00002 05 2C0FFF0000", "6A84"), ("80E00002 05 2C10000000", "6A84"), ("80E00002 05 2C0FFE0000", "9000"),
+            ("80E00003 05 2C00020000", "6A84"), ("80E00003 05 2800010000", "6A84")):
+        check("create %s" % sent, session.send(sent), expected)
+    check("without the device right", Session().send("80E00001 05 2C00010000"), "6982")
+    session = device_session()
+    check("a space of 4,096", session.send("80E00001 05 2C10000000"), "9000")
+    check("a space after it", session.send("80E00002 05 2C00020000"), "6A84")
+    check("count and length are no size", session.send("00B2010400"), "6A83")
+
+    # New bytes are 00 though they do not show.
+    session = device_session()
+    session.program.area[:] = b"\xFF" * 4096
+    session.send("80E00001 05 2C00030000")
+    check("new bytes are 00", session.program.area[:4].hex().upper(), "000000FF")
+    check("used bytes at creation", session.program.card.files[0].used, 0)
+
+    # A space of 2 holds a record of 1.
+    session = device_session()
+    session.send("80E00001 05 2C00020000")
+    for sent, expected in (
+            ("00B2010400", "6A83"), ("00E2000002AABB", "6A84"), ("00E20000B2" + "AA" * 178, "6A84"),
+            ("00E20000B3" + "AA" * 179, "6700"), ("00B2010400", "6A83"), ("00E2000001AA", "9000"),
+            ("00B2010400", "AA 9000"), ("00B2020400", "6A83"), ("00E2000001BB", "6A84"), ("00E20000B3" + "AA" * 179, "6700"),
+            ("00B2010401", "AA 9000"), ("00DC010401CC", "9000"), ("00B2010401", "CC 9000")):
+        check("a space of 2, %s" % sent[:12], session.send(sent), expected)
+    check("a space of 2, used", session.program.card.files[0].used, 2)
+
+    # 3 hold one record of 1 or of 2, and 4 two of 1.
+    for space, lengths, expected in (
+            (3, (1, 1), ["9000", "6A84"]), (3, (2, 1), ["9000", "6A84"]), (3, (3, 2), ["6A84", "9000"]),
+            (4, (1, 1, 1), ["9000", "9000", "6A84"]), (4, (2, 1), ["9000", "6A84"]), (4, (3, 1), ["9000", "6A84"]),
+            (10, (3, 6, 5, 1), ["9000", "6A84", "9000", "6A84"]), (10, (3, 4, 1), ["9000", "9000", "6A84"]),
+            (10, (3, 3, 1, 1), ["9000", "9000", "9000", "6A84"]), (10, (9,), ["9000"]), (10, (10,), ["6A84"]),
+            (178, (178, 177), ["6A84", "9000"]), (179, (179, 178, 1), ["6700", "9000", "6A84"]),
+            (180, (178, 1), ["9000", "6A84"]), (181, (178, 1, 1), ["9000", "9000", "6A84"]),
+            (358, (178, 178, 1), ["9000", "9000", "6A84"]), (357, (178, 178, 177), ["9000", "6A84", "9000"]),
+            (4096, (177, 178, 179, 180, 255), ["9000", "9000", "6700", "6700", "6700"]),
+            (256, (177, 78, 77), ["9000", "6A84", "9000"]), (257, (178, 77, 1), ["9000", "9000", "6A84"]),
+            # 22 times 179 is 3,938; 158 bytes are left of 4,096.
+            (4096, (178,) * 22 + (178, 158, 157, 1), ["9000"] * 22 + ["6A84", "6A84", "9000", "6A84"])):
+        session = device_session()
+        session.send("80E00001 05 2C%04X0000" % space)
+        answers = [session.send("00E20000%02X" % length + "%02X" % length * length) for length in lengths]
+        check("space %d, lengths %s" % (space, lengths[:6]), answers, expected)
+        kept = [length for length, answer in zip(lengths, answers) if answer == "9000"]
+        check("space %d, records %s" % (space, kept[:6]),
+              [session.send("00B2%02X0400" % number) for number in range(1, len(kept) + 2)],
+              ["%02X" % length * length + " 9000" for length in kept] + ["6A83"])
+        check("space %d, used for %s" % (space, kept[:6]), session.program.card.files[0].used, sum(kept) + len(kept))
+
+    # Nothing appended is no append.
+    session = device_session()
+    session.send("80E00001 05 2C00020000")
+    for sent in ("00E20000", "00E2000000", "00E200000000", "00E2000001", "00E2000001AA00"):
+        check("append %s" % sent, session.send(sent), "6700")
+    check("nothing was appended", session.send("00B2010400"), "6A83")
+
+
+def test_variable_records():
+    session = device_session()
+    session.send("80E01001 05 2800040000")
+    session.send("80E02002 05 2C00200000")
+    session.send("80E0301E 05 2E03020000")
+    for sent, expected in (
+            # The current file is the cyclic one; the 2C file is SFI 2.
+            ("00B2011400", "6A83"), ("00E2001003 A1A2A3", "9000"), ("00E2000001 B1", "9000"), ("00E2001005 C1C2C3C4C5", "9000"),
+            # Number 1 is the oldest.
+            ("00B2011400", "A1A2A3 9000"), ("00B2021400", "B1 9000"), ("00B2031400", "C1C2C3C4C5 9000"), ("00B2041400", "6A83"),
+            ("00B2FF1400", "6A83"), ("00B2011403", "A1A2A3 9000"), ("00B2021401", "B1 9000"), ("00B2031405", "C1C2C3C4C5 9000"),
+            # 6C has the length of the record that is asked for.
+            ("00B2011401", "6C03"), ("00B2011402", "6C03"), ("00B2011404", "6C03"), ("00B2011405", "6C03"),
+            ("00B20114FF", "6C03"), ("00B2021402", "6C01"), ("00B2021403", "6C01"), ("00B2031404", "6C05"),
+            ("00B2031403", "6C05"), ("00B2031420", "6C05"), ("00B2041405", "6A83"), ("00B2041406", "6A83"),
+            # UPDATE keeps the length.
+            ("00DC011403 D1D2D3", "9000"), ("00DC031405 E1E2E3E4E5", "9000"), ("00DC021401 F1", "9000"),
+            ("00B2011400", "D1D2D3 9000"), ("00B2021400", "F1 9000"), ("00B2031400", "E1E2E3E4E5 9000"),
+            ("00DC011402 0000", "6700"), ("00DC011404 00000000", "6700"), ("00DC021402 0000", "6700"),
+            ("00DC021403 000000", "6700"), ("00DC031404 00000000", "6700"), ("00DC031406 000000000000", "6700"),
+            ("00DC0114B2" + "00" * 178, "6700"), ("00DC0114B3" + "00" * 179, "6700"), ("00DC041405 0000000000", "6A83"),
+            ("00DC041406 000000000000", "6A83"), ("00DCFF1401 00", "6A83"),
+            ("00B2011400", "D1D2D3 9000"), ("00B2021400", "F1 9000"), ("00B2031400", "E1E2E3E4E5 9000"), ("00B2041400", "6A83"),
+            # It is no binary file, by SFI or current, readable or not.
+            ("00B0820001", "6981"), ("00D6820001AA", "6981"), ("00B0000001", "6981"), ("00D6000001AA", "6981"),
+            ("00B07FFF00", "6981"), ("00B0820000", "6981"), ("00B08200", "6700"), ("00B0820001AA", "6700"),
+            # The number and P2 as in the other record files.
+            ("00B2001400", "6A86"), ("00B2011000", "6A86"), ("00B201FC00", "6A86"), ("00DC001401AA", "6A86"),
+            ("00E2011001AA", "6A86"), ("00E2001401AA", "6A86"), ("00E200F801AA", "6A86"), ("00E200E001AA", "6A82"),
+            ("00B201E400", "6A82"), ("00E20008 01AA", "6981"),
+            # A refused command keeps the current file; one by SFI that ends 9000 changes it.
+            ("00A4000002301E", "9000"), ("00B2011401", "6C03"), ("00B2041400", "6A83"), ("00DC011401AA", "6700"),
+            ("00E20010B3" + "AA" * 179, "6700"), ("00E20010B2" + "AA" * 178, "6A84"), ("00E2000002BEEF", "9000"),
+            ("00B2010400", "BEEF 9000"), ("00DC011403 A1A2A3", "9000"), ("00B2020400", "F1 9000"), ("00A4000002301E", "9000"),
+            ("00B2021400", "F1 9000"), ("00B2010400", "A1A2A3 9000"), ("00A4000002301E", "9000"), ("00E2001001 44", "9000"),
+            ("00B2040400", "44 9000"), ("00A40000022002", "9000"), ("00E2000001 55", "9000"), ("00B2050400", "55 9000"),
+            ("00B2040400", "44 9000"), ("00B2060400", "6A83"),
+            # The files beside it.
+            ("00B0810004", "00000000 9000"), ("00B201F400", "BEEF 9000"), ("00B202F400", "6A83")):
+        check("2C %s" % sent[:24], session.send(sent), expected)
+    check("each record behind its length", session.program.area[4:4 + 16].hex().upper(), "03A1A2A301F105E1E2E3E4E501440155")
+    check("used bytes", [file.used for file in session.program.card.files], [0, 16, 0])
+    check("held and newest stay 0", [(file.records, file.newest) for file in session.program.card.files],
+          [(0, 0), (0, 0), (1, 0)])
+    session.reset()
+    check("reset keeps the records", session.send("00B2031400"), "E1E2E3E4E5 9000")
+
+    # Each check before the next, with a file that must never be read or written.
+    session = device_session()
+    session.send("80E00001 05 2C00040000")
+    session.send("80E00002 05 2C00040F0F")
+    session.send("00E2000801AA")
+    for sent, expected in (
+            ("00E20111", "6A86"), ("00E20010", "6700"), ("00E20018", "6700"), ("00E20018B3" + "AA" * 179, "6A82"),
+            ("00E20010B3" + "AA" * 179, "6982"), ("00E2001004AABBCCDD", "6982"), ("00E20008B3" + "AA" * 179, "6700"),
+            ("00E20008B2" + "AA" * 178, "6A84"), ("00E2000802AABB", "6A84"), ("00E2000801BB", "9000"),
+            ("00B20114", "6700"), ("00B2011400", "6982"), ("00B2011409", "6982"), ("00B2FF1400", "6982"), ("00B2030C09", "6A83"),
+            ("00B2020C09", "6C01"), ("00DC011401AA", "6982"), ("00DC031402AAAA", "6982"), ("00DC030C02AAAA", "6A83"),
+            ("00DC020C02AAAA", "6700"), ("00DC020C01CC", "9000"), ("00B0820001", "6981"), ("00D6820001AA", "6981")):
+        check("2C order %s" % sent[:14], session.send(sent), expected)
+    session = device_session()
+    session.send("80E00001 05 2C00044080")
+    check("read user", session.send("00B2010400"), "6982")
+    check("write admin", session.send("00E2000001AA"), "6982")
+    session.user()
+    check("read user, shown", session.send("00B2010400"), "6A83")
+    check("write admin, not shown", session.send("00E2000001AA"), "6982")
+    session.admin()
+    check("write admin, shown", session.send("00E2000001AA"), "9000")
+    session.reset()
+    session.admin()
+    check("the write right does not read", session.send("00B2010C00"), "6982")
+    check("the write right updates", session.send("00DC010C01BB"), "9000")
+
+
+def test_variable_many():
+    """More than 255 records: P1 names the first 255 of them, and APPEND knows them all."""
+    session = device_session()
+    session.send("80E00001 05 2C02580000")
+    check("254 records", {session.send("00E2000001%02X" % number) for number in range(1, 255)}, {"9000"})
+    check("number 254", session.send("00B2FE0400"), "FE 9000")
+    check("no number 255", session.send("00B2FF0400"), "6A83")
+    check("record 255", session.send("00E2000001FF"), "9000")
+    check("number 255", session.send("00B2FF0400"), "FF 9000")
+    check("record 256", session.send("00E2000001AA"), "9000")
+    check("number 255 as it was", session.send("00B2FF0400"), "FF 9000")
+    check("number 0 is none", session.send("00B2000400"), "6A86")
+    check("record 257", session.send("00E2000001BB"), "9000")
+    check("number 1 as it was", session.send("00B2010400"), "01 9000")
+    check("number 255 can be updated", session.send("00DCFF0401EE"), "9000")
+    check("number 255 is updated", session.send("00B2FF0401"), "EE 9000")
+    check("number 255, wrong Le", session.send("00B2FF0402"), "6C01")
+    # 257 records take 514 of 600 bytes; 86 are left.
+    check("one byte more than is left", session.send("00E2000056" + "CC" * 86), "6A84")
+    check("what is left", session.send("00E2000055" + "CC" * 85), "9000")
+    check("number 255 is the same record", session.send("00B2FF0400"), "EE 9000")
+    check("the records past 255 stand in the area", session.program.area[510:600].hex().upper(), "01AA01BB55" + "CC" * 85)
+    check("the records held", session.program.card.files[0].records_held(session.program.area), 258)
+    check("reset of such a card", session.reset(), "0")
+
+    # The most there can be: 2,048 records of 1.
+    session = device_session()
+    session.send("80E00001 05 2C10000000")
+    check("2,048 records", {session.send("00E2000001%02X" % (number & 0xFF)) for number in range(2048)}, {"9000"})
+    check("one more", session.send("00E200000100"), "6A84")
+    check("the first", session.send("00B2010400"), "00 9000")
+    check("the last that has a number", session.send("00B2FF0400"), "FE 9000")
 
 
 def snapshot(made):
@@ -514,7 +766,7 @@ class History:
     def watch(self, program, line, answer):
         outcome, _, sw = answer
         fields = line.split(b"\t")
-        if outcome == 4 or program.card is not None and not cards.is_sound(program.card):
+        if outcome == 4 or program.card is not None and not cards.is_sound(program.card, program.area):
             self.unsound += 1
         if outcome != 0:
             return
@@ -547,21 +799,86 @@ class History:
             self.events.append(("user", "reload"))
 
 
+class Lists:
+    """The 2C files of a card as plain lists of records, beside the bytes that the model keeps.
+
+    Answers up to the right are taken as they come; what follows from the records is worked out from the list alone.
+    """
+
+    def __init__(self):
+        self.files = {}
+        self.compared = 0
+        self.disagreements = []
+
+    def watch(self, program, line, answer):
+        outcome, data, sw = answer
+        if outcome != 0:
+            return
+        if line.startswith(b"ISSUE"):
+            self.files = {}
+        if sw is None or sw in (0x6A86, 0x6A82, 0x6981, 0x6982, 0x6D00, 0x6E00):
+            return
+        sent = script.bytes_of(line.split(b"\t")[1])
+        frame = cards.frame_of(sent)
+        if frame is None:
+            return
+        name = next(name for cla, ins, name, _ in cards.LIST if (cla, ins) == (sent[0], sent[1]))
+        if name == "CREATE FILE" and sw == 0x9000 and frame.data[0] == 0x2C:
+            self.files[frame.p2 & 0x1F] = (frame.data[1] << 8 | frame.data[2], [])
+        if "RECORD" not in name or frame.case != (2 if name == "READ RECORD" else 3):
+            return
+        # Without SFI the current file is meant, which the command did not change.
+        sfi = frame.p2 >> 3 or program.card.current.sfi
+        if sfi not in self.files:
+            return
+        expected = self.expected(name, frame, *self.files[sfi])
+        self.compared += 1
+        if expected != (data, sw):
+            self.disagreements.append((line, expected, (data, sw)))
+
+    @staticmethod
+    def expected(name, frame, space, records):
+        if name == "APPEND RECORD":
+            if len(frame.data) > 178:
+                return b"", 0x6700
+            if sum(1 + len(record) for record in records + [frame.data]) > space:
+                return b"", 0x6A84
+            records.append(frame.data)
+            return b"", 0x9000
+        if frame.p1 > len(records):
+            return b"", 0x6A83
+        record = records[frame.p1 - 1]
+        if name == "READ RECORD":
+            return (record, 0x9000) if frame.le in (256, len(record)) else (b"", 0x6C00 + len(record))
+        if len(frame.data) != len(record):
+            return b"", 0x6700
+        records[frame.p1 - 1] = frame.data
+        return b"", 0x9000
+
+
 def test_generated():
     check("a seed always gives the same script", generate.script_of(7, 500), generate.script_of(7, 500))
     check("seeds differ", generate.script_of(7, 500) == generate.script_of(8, 500), False)
     check("as many lines as asked for", [len(script.lines_of(generate.script_of(seed, 300))) for seed in range(20)],
           [300] * 20)
     for seed in range(1, 4):
-        history = History()
-        generate.Generator(seed, 4000, history.watch).write()
+        history, lists = History(), Lists()
+
+        def watch(*seen):
+            history.watch(*seen)
+            lists.watch(*seen)
+
+        generate.Generator(seed, 4000, watch).write()
         check("rights follow from history, seed %d" % seed, history.disagreements, [])
         check("every state is sound, seed %d" % seed, history.unsound, 0)
+        check("2C files are lists of records, seed %d" % seed, lists.disagreements[:3], [])
+        check("2C files are used often, seed %d" % seed, lists.compared > 300, True)
 
 
 def main():
-    for test in (test_cipher, test_example, test_edges, test_errors_that_look_right, test_calls, test_framing, test_files,
-                 test_rights, test_credentials, test_grammar, test_generated):
+    for test in (test_cipher, test_example, test_edges, test_errors_that_look_right, test_calls, test_variable_soundness,
+                 test_variable_space, test_variable_records, test_variable_many, test_framing, test_files, test_rights,
+                 test_credentials, test_grammar, test_generated):
         test()
     print("%d passed, %d failed" % (passed, failed))
     return 1 if failed else 0

@@ -66,8 +66,8 @@ def box():
         for pin in ("", "12345", "12345678901234567", "12345x", "１２３４５６"):
             refused(f"no PIN: {pin!r}", "6 to 16 digits; this one was not sent", pin=pin)
         tries("63C3", "what is no PIN was not sent")
-        refused("no such file", "there is no file A103 on the card (6A82)", "--file", "A103")
-        refused("no such short number", "there is no such file on the card (6A82)", "--sfi", "3")
+        refused("no such file", "there is no file A104 on the card (6A82)", "--file", "A104")
+        refused("no such short number", "there is no such file on the card (6A82)", "--sfi", "4")
         refused("not a record file", "no records (6981)", "--file", "A102")
         refused("no such reader", "there is no reader of that name", "--reader", "Nobody's")
         refused("no card in that reader", "no card in the reader", "--reader", "Virtual PCD 00 01")
@@ -94,6 +94,7 @@ FILES = [
     "00E20000080000000200060001", "00E20000080000000320060000",  # lines 33 and 0, kind 7; number 2 twice
     "80E0A107052EFE080001", *(f"00E2000008{number:08X}01010001" for number in range(1, 256)),  # 254 records, and one more
     "80E0A108052E04080001", *(f"00E2000008{number:08X}01010001" for number in (8, 9, 1)),  # numbers that fall
+    "80E0A109052C00400001", "00E20000056F696C6564",  # a note
 ]
 
 
@@ -104,6 +105,7 @@ def kinds_of_file():
         printed("an empty file", "no alarms\n")
         refused("a file that is never read", "another right", "--file", "A103", pin="123456")
         refused("records that are no alarms", "has 9 bytes and an alarm 8", "--file", "A104")
+        refused("notes are no alarms", "has 5 bytes and an alarm 8", "--file", "A109")
         refused("the user PIN does not open a file of the admin PIN", "another right", "--file", "a105", pin="123456")
         rows = table((7, 7, 2, 65535), (4, 7, 2, 257), (2, 7, 2, 255), (1, 7, 2, 1))
         missing = "missing: numbers 5 to 6\nmissing: number 3\n"

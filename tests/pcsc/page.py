@@ -64,7 +64,7 @@ for command in sorted(set(re.findall(r"`([0-9A-F]{8,})`", page))):
 
 def status_words():
     rows = re.findall(r"^\| ([0-9A-F]{4})(?: to ([0-9A-F]{4}))? \|", page, re.MULTILINE)
-    by_scriptor = re.findall(r"^<(?: [0-9A-F]{2})* ([0-9A-F]{2}) ([0-9A-F]{2}) :", run, re.MULTILINE)
+    by_scriptor = re.findall(r"\b([0-9A-F]{2}) ([0-9A-F]{2}) :", run)  # also in the last line of a long answer
     by_opensc = re.findall(r"SW1=0x(..), SW2=0x(..)", run)
     shown = {high + low for high, low in by_scriptor + by_opensc}
     for word in sorted(shown):
@@ -83,7 +83,7 @@ def status_words():
 def transcripts():
     with card("examples/box.script") as reader:
         answers = re.findall("^< (.*)$", reader.said().partition("limpet-reader: ")[0], re.MULTILINE)
-        check("the script of the box is served throughout", len(answers) == 11 and all(a.endswith("9000") for a in answers), answers)
+        check("the script of the box is served throughout", len(answers) == 12 and all(a.endswith("9000") for a in answers), answers)
         for number, (hidden, block) in enumerate(blocks, 1):
             for command, lines in calls(block):
                 got = seen(command, lines, hidden)

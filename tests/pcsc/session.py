@@ -1,7 +1,7 @@
 #!/usr/bin/env python3
-"""A session with the card through scriptor and through opensc-tool, each answer held to document 01.
+"""A session with the card through scriptor and through opensc-tool, each answer held to documents 01 and 02.
 
-What is expected was worked out from document 01, and stands with the reason; cryptograms are openssl's.
+What is expected was worked out from them, and stands with the reason; cryptograms are openssl's.
 """
 import subprocess
 import tempfile
@@ -9,6 +9,8 @@ import tempfile
 from stack import ADMIN_PIN, ISSUE_WORDS, KEY, USER_PIN, OpenscTool, Scriptor, card, check, end, wait_until
 
 ALARMS = ["000000010702000C", "0000000203010005", "000000030702002D", "0000000420060078", "000000050C040003"]
+NOTES = [b"LINE 7 BELT".hex().upper(), b"FUSE 12A".hex().upper(), b"OK".hex().upper()]
+CORRECTED = b"FUSE 16A".hex().upper()
 RIGHT_PIN, WRONG_PIN = "0020000106313233343536", "0020000106313131313131"
 QUERY = "00200001"
 
@@ -100,6 +102,39 @@ def longest(ask):
     ask("00B0010000", "6A84", "the offset is not below the size")
 
 
+def data_field(digits):
+    return f"{len(digits) // 2:02X}" + digits
+
+
+def notes(ask):
+    """The device and the user are logged in."""
+    ask("80E0A103052C00014040", "6A80", "a file of type 2C has 2 bytes at least")
+    ask("80E0A103052C001E4040", "9000", "2C, 30 bytes, read user, write user")
+    ask("00B2010400", "6A83", "a new file has no record")
+    ask("00E20000B3" + "2A" * 179, "6700", "a record has up to 178 bytes, and that is checked before the room")
+    for note in NOTES:
+        ask("00E20000" + data_field(note), "9000", "11, 8 and 2 bytes, each with one more, are 24 of 30")
+    for number, note in enumerate(NOTES, 1):
+        ask(f"00B2{number:02X}1C00", note + "9000", "number 1 is the oldest, and Le 00 stands for the whole record")
+    ask("00B2041C00", "6A83", "the file holds three")
+    ask("00B2021C08", NOTES[1] + "9000", "Le may be this record's length")
+    if ask.client.name == "scriptor":
+        ask("00B2021C0B", "6C08", "11 is the length of another record")
+    else:
+        ask("00B2021C0B", NOTES[1] + "9000", "the card says 6C08, and OpenSC sends the command again with that Le")
+    ask("00DC021C" + data_field(CORRECTED), "9000", "as long as before")
+    ask("00DC021C" + data_field(CORRECTED + "41"), "6700", "one byte longer; an update keeps the length")
+    ask("00DC021C" + data_field(CORRECTED[:-2]), "6700", "one byte shorter")
+    ask("00DC041C" + data_field(CORRECTED), "6A83", "there is no fourth to update")
+    for number, note in enumerate([NOTES[0], CORRECTED, NOTES[2]], 1):
+        ask(f"00B2{number:02X}1C00", note + "9000", "the second is corrected, and the others are as they were")
+    ask("00E2001806" + "2A" * 6, "6A84", "6 bytes are left, and this takes 7")
+    ask("00E2001805" + "2A" * 5, "9000", "it takes 6")
+    ask("00E20018012A", "6A84", "the file is full, and drops no record")
+    ask("00B2041C00", "2A" * 5 + "9000", "the fourth is the newest")
+    ask("00B0830001", "6981", "READ BINARY wants type 28")
+
+
 def blocked(ask):
     ask(WRONG_PIN, "63C2", "a wrong PIN costs a try")
     ask("00B2010C00", "6982", "and drops the right")
@@ -111,6 +146,7 @@ def blocked(ask):
     ask(QUERY, "6983", "a reset gives no tries back")
     ask("00B2010400", "6A82", "a reset leaves no file current")
     ask("00B2010C00", "6982", "and the file stands")
+    ask("00B2011C00", "6982", "and so do the notes")
     ask("80E0A103052E04084001", "6982", "a reset drops the device right")
 
 
@@ -137,11 +173,12 @@ def change(ask):
     ask.reset()
     ask("0020000106363534333231", "63C2", "the old PIN is wrong now")
     ask("0020000106323436383130", "9000", "the new one is right")
+    ask("00B2021C00", CORRECTED + "9000", "the notes are as they were before all resets")
 
 
 def session(client):
     ask = Asking(client)
-    for part in (before_login, login, alarm_file, longest, blocked, reload, change):
+    for part in (before_login, login, alarm_file, longest, notes, blocked, reload, change):
         part(ask)
 
 

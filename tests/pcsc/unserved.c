@@ -33,9 +33,9 @@ uint8_t limpet_command(struct limpet_card *card, uint8_t *area, size_t area_len,
     return LIMPET_UNSOUND;
 }
 
-uint8_t limpet_reset(struct limpet_card *card)
+uint8_t limpet_reset(struct limpet_card *card, const uint8_t *area, size_t area_len)
 {
     static int resets = 0;
-    (void)card;
+    (void)card, (void)area, (void)area_len;
     return resets++ == 0 ? LIMPET_OK : LIMPET_UNSOUND; /* the first is that of putting it in */
 }

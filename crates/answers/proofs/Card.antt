@@ -50,7 +50,7 @@ card = record {
   place-limpet-reset = record {
     claim = _;
     is-contract = refl;
-    at-most-one = λ κs a x y p q i. let z = placed p q i in (z .0, (z .1, tt));
+    at-most-one = λ κs a x y p q i. let z = placed p q i in (z .0, (z .1, (tt, tt)));
   };
   sound-is-sound = λ κs a x y. returned;
   step-command = λ κs a x y p q i. let z = commands p q i in (z .0, (tt, (z .1 .0, (tt, (tt, (z .1 .1, tt))))));

@@ -39,6 +39,7 @@ files = record {
   state-new-file = λ κs a x y. returned;
   state-blank-file = λ κs a x y. returned;
   state-with-newest = λ κs a x y. returned;
+  state-nowhere = λ κs a x y. returned;
   state-no-files = λ κs a x y. returned;
   tests-both = λ κs a x y. returned;
   tests-either = λ κs a x y. returned;
@@ -73,9 +74,11 @@ files = record {
   binary-in-binary = λ κs a x y. returned;
   binary-read = λ κs a x y p q i. let z = reading p q i in (z .0, (tt, (tt, (tt, (tt, (z .1, tt))))));
   binary-update = λ κs a x y p q i. let z = writing p q i in (z .0, (tt, (z .1, (tt, (tt, tt)))));
-  record-records-held = λ κs a x y. bounded;
   record-sound-held = λ κs a x y. returned;
-  record-in-records = λ κs a x y. returned;
+  record-locate = λ κs a x y. returned;
+  record-grows = λ κs a x y. returned;
+  record-is-record = λ κs a x y. returned;
+  record-has-room = λ κs a x y. returned;
   record-read = λ κs a x y p q i. let z = reading p q i in (z .0, (tt, (tt, (tt, (z .1, tt)))));
   record-update = λ κs a x y p q i. let z = writing p q i in (z .0, (tt, (z .1, (tt, (tt, tt)))));
   record-append = λ κs a x y p q i. let z = file-writing p q i in (z .0, (tt, (z .1, (tt, tt))));
@@ -84,8 +87,10 @@ files = record {
   create-room = λ κs a x y. returned;
   sound-sound-file = λ κs a x y. returned;
   sound-is-sound = λ κs a x y. returned;
+  sound-is-parted-area = λ κs a x y. returned;
   area-read-binary = λ κs a x y p q i. let z = reading p q i in (z .0, (tt, (tt, (tt, (tt, (tt, (z .1, tt)))))));
   area-update-binary = λ κs a x y p q i. let z = writing p q i in (z .0, (tt, (tt, (z .1, (tt, (tt, tt))))));
+  area-locate = λ κs a x y. returned;
   area-read-record = λ κs a x y p q i. let z = reading p q i in (z .0, (tt, (tt, (tt, (tt, (z .1, tt))))));
   area-update-record = λ κs a x y p q i. let z = writing p q i in (z .0, (tt, (tt, (z .1, (tt, (tt, tt))))));
   area-append-record = λ κs a x y p q i. let z = directory-writing p q i in (z .0, (tt, (tt, (z .1, (tt, tt)))));

@@ -8,6 +8,7 @@ pub record Files : Type 0 where
   pub state-new-file : OneAnswer files.state.new_file.ended files.state.new_file.Reads.Learnt
   pub state-blank-file : OneAnswer files.state.blank_file.ended files.state.blank_file.Reads.Learnt
   pub state-with-newest : OneAnswer files.state.with_newest.ended files.state.with_newest.Reads.Learnt
+  pub state-nowhere : OneAnswer files.state.nowhere.ended files.state.nowhere.Reads.Learnt
   pub state-no-files : OneAnswer files.state.no_files.ended files.state.no_files.Reads.Learnt
   pub tests-both : OneAnswer files.tests.both.ended files.tests.both.Reads.Learnt
   pub tests-either : OneAnswer files.tests.either.ended files.tests.either.Reads.Learnt
@@ -42,9 +43,11 @@ pub record Files : Type 0 where
   pub binary-in-binary : OneAnswer files.binary.in_binary.ended files.binary.in_binary.Reads.Learnt
   pub binary-read : OneAnswer files.binary.read.ended files.binary.read.Reads.Learnt
   pub binary-update : OneAnswer files.binary.update.ended files.binary.update.Reads.Learnt
-  pub record-records-held : OneAnswer files.record.records_held.ended files.record.records_held.Reads.Learnt
   pub record-sound-held : OneAnswer files.record.sound_held.ended files.record.sound_held.Reads.Learnt
-  pub record-in-records : OneAnswer files.record.in_records.ended files.record.in_records.Reads.Learnt
+  pub record-locate : OneAnswer files.record.locate.ended files.record.locate.Reads.Learnt
+  pub record-grows : OneAnswer files.record.grows.ended files.record.grows.Reads.Learnt
+  pub record-is-record : OneAnswer files.record.is_record.ended files.record.is_record.Reads.Learnt
+  pub record-has-room : OneAnswer files.record.has_room.ended files.record.has_room.Reads.Learnt
   pub record-read : OneAnswer files.record.read.ended files.record.read.Reads.Learnt
   pub record-update : OneAnswer files.record.update.ended files.record.update.Reads.Learnt
   pub record-append : OneAnswer files.record.append.ended files.record.append.Reads.Learnt
@@ -53,8 +56,10 @@ pub record Files : Type 0 where
   pub create-room : OneAnswer files.create.room.ended files.create.room.Reads.Learnt
   pub sound-sound-file : OneAnswer files.sound.sound_file.ended files.sound.sound_file.Reads.Learnt
   pub sound-is-sound : OneAnswer files.sound.is_sound.ended files.sound.is_sound.Reads.Learnt
+  pub sound-is-parted-area : OneAnswer files.sound.is_parted_area.ended files.sound.is_parted_area.Reads.Learnt
   pub area-read-binary : OneAnswer files.area.read_binary.ended files.area.read_binary.Reads.Learnt
   pub area-update-binary : OneAnswer files.area.update_binary.ended files.area.update_binary.Reads.Learnt
+  pub area-locate : OneAnswer files.area.locate.ended files.area.locate.Reads.Learnt
   pub area-read-record : OneAnswer files.area.read_record.ended files.area.read_record.Reads.Learnt
   pub area-update-record : OneAnswer files.area.update_record.ended files.area.update_record.Reads.Learnt
   pub area-append-record : OneAnswer files.area.append_record.ended files.area.append_record.Reads.Learnt

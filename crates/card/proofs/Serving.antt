@@ -1,9 +1,9 @@
 -- The commands on files: where every check passed on a sound card, the files serve.
 -- Assumes nothing.
 use mathlib.Core.Path.{_≡_, refl, ap, ap₂, sym, _∙_, subst}
-use mathlib.Core.Bool.{Bool, true, false, cond, _||_}
-use mathlib.Core.List.{List, [], _∷_, _++_}
-use Prim.Native.Nat.{ℕ, _+_, _-_, _/_, _≤_, _<_}
+use mathlib.Core.Bool.{Bool, true, _||_}
+use mathlib.Core.List.{List, []}
+use Prim.Native.Nat.{ℕ, _+_, _-_, _/_, _≤_}
 use native.Mathlib.Omega.{arith}
 use lib.ListN.{length}
 use lib.Dec.{leb, eqb}
@@ -11,39 +11,54 @@ use borrow.Author.Tests.{le-leb, leb-true, eqb-true}
 use Rattle.files.specs.declared.File.{File}
 use Rattle.files.specs.declared.Directory.{Directory}
 use Rattle.files.specs.declared.DirectoryAnswer.{DirectoryAnswer}
-use Rattle.files.specs.State.{withFile, directoryAnswer}
-use Rattle.files.specs.Part.{part, splice, over, zeros, shown, stored, shows as showsIn, Reading, Writing, DirectoryWriting}
-use Rattle.files.specs.Types.{size, recordLength}
+use Rattle.files.specs.State.{withFile}
+use Rattle.files.specs.Part.{part, splice, zeros, shown, stored, shows as showsIn, Reading, Writing, DirectoryWriting}
+use Rattle.files.specs.declared.Located.{Located}
+use Rattle.files.specs.Types.{size}
 use Rattle.files.specs.Directory.{file, start, end, inArea}
 use Rattle.files.specs.Binary.{inBinary, readsBinary, onArea}
-use Rattle.files.specs.Record.{recordStart, nextStart, appended, soundHeld, inRecords, readsRecord, updatesRecord, appendsRecord}
+use Rattle.files.specs.Record.{nextStart, entry, appended, readsRecord, updatesRecord, appendsRecord}
 use Rattle.files.specs.Create.{created, creates}
 use Rattle.files.specs.Sound.{soundDirectory}
 use Rattle.files.proofs.Checks.{join, both}
 use Rattle.files.proofs.Served.{binary-fits}
 use Rattle.files.proofs.Kept.{filed}
-use Rattle.files.proofs.Lists.{record-fits}
 use Rattle.rules.specs.declared.Card.{Card}
+use Rattle.rules.specs.declared.Ins.{Ins}
 use Rattle.rules.specs.Words.{first, unless}
 use Rattle.rules.specs.State.{Logins, withCurrent, withDirectory}
 use Rattle.rules.specs.Sound.{sound, goodLength}
 use Rattle.rules.specs.Pins.{pinGiven, changeChecks, reloadChecks}
 use Rattle.rules.specs.Device.{getChallengeChecks}
 use Rattle.rules.specs.Frame.{Command, lc}
-use Rattle.rules.specs.Effect.{Effect, shows, stores}
+use Rattle.rules.specs.Effect.{shows}
 use Rattle.rules.specs.Binary.{target, fileOf, fileSw, binarySfi, binaryTarget, offset, readBinaryChecks, readBinaryEffect, updateBinaryChecks, updateBinaryEffect}
-use Rattle.rules.specs.Record.{recordTarget, readRecordChecks, readRecordEffect, updateRecordChecks, updateRecordEffect, appendChecks, appendEffect}
+use Rattle.rules.specs.Record.{recordTarget, recordFound, readRecordChecks, readRecordEffect, updateRecordChecks, updateRecordEffect, appendChecks, appendEffect}
 use Rattle.rules.specs.Create.{fileGiven, createChecks, createEffect}
+use Rattle.rules.specs.Step.{addressed}
 use Rattle.rules.proofs.Checks.{Passed, passed, holds, one-of}
-use Rattle.rules.proofs.Good.{good}
-use Rattle.rules.proofs.Targets.{target-low, place-in-area, place-held, place-shaped, place-run, Shaped}
-use Rattle.rules.proofs.Asked.{challenge-asked, some-file, some-number, binary-asked, record-asked, update-asked, append-asked, create-asked}
+use Rattle.rules.proofs.Good.{sound-good}
+use Rattle.rules.proofs.Targets.{target-low, place-in-area, place-run}
+use Rattle.rules.proofs.Asked.{challenge-asked, some-file, binary-asked, create-asked}
+use Rattle.rules.proofs.Found.{read-served, read-fits, read-long, update-served, appends}
 use Rattle.card.specs.declared.Carried.{Carried}
+use Rattle.card.specs.declared.Header.{Header}
+use Rattle.card.specs.Head.{commandOf}
 use Rattle.card.specs.Carried.{Ready, carried, Stores, Shows, Says}
 
+-- a record is found by the header
+module _ (c : Card) (area : List ℕ) (h : Header) (given : List ℕ) where
+  pub found-given : recordFound c area (commandOf h []) ≡ recordFound c area (commandOf h given)
+  unfolding recordFound
+  found-given = refl
+
+  pub addressed-given : (i : Ins) → addressed i c area (commandOf h []) ≡ addressed i c area (commandOf h given)
+  unfolding addressed
+  addressed-given i = rw found-given
+
 -- a sound directory has at most 16 files
-pub count-few : (c : Card) → sound c ≡ true → c .directory .count ≤ 16
-count-few c h = filed (c .directory) (good c h .directory) .few
+pub count-few : (c : Card) (area : List ℕ) → sound c area ≡ true → c .directory .count ≤ 16
+count-few c area h = filed (c .directory) (sound-good c area h .directory) .few
 
 -- a read that is served shows, a write that is served stores
 reading-shows : (c : Card) (from n : ℕ) (area reply reply′ : List ℕ) (ok answer : Bool) (r : Carried) → ok ≡ true → Reading ok (part from n area) reply answer reply′
@@ -61,9 +76,9 @@ unfolding stored
 stored-all ok area area′ into bytes t h = h ∙ rw t
 
 -- the check for a file, in the two lists that hide it
-update-file : (c : Card) (k : Command) → Passed (updateRecordChecks c k) → fileSw (recordTarget c k) ≡ 0x9000
+update-file : (c : Card) (l : Located) (k : Command) → Passed (updateRecordChecks c l k) → fileSw (recordTarget c k) ≡ 0x9000
 unfolding updateRecordChecks
-update-file c k p = p .1 .1 .0
+update-file c l k p = p .1 .1 .0
 
 append-file : (c : Card) (k : Command) → Passed (appendChecks c k) → fileSw (recordTarget c k) ≡ 0x9000
 unfolding appendChecks
@@ -72,19 +87,16 @@ append-file c k p = p .1 .1 .0
 -- there is a file, and its extent lies in the area
 module _ (c : Card) (area : List ℕ) (h : Ready c area) where
   directory-sound : soundDirectory (c .directory) ≡ true
-  directory-sound = good c (h .is-sound) .directory
+  directory-sound = sound-good c area (h .is-sound) .directory
 
   on-area : (sfi : ℕ) (asked : Bool) → 1 ≤ target c sfi → asked ≡ true → onArea (c .directory) (target c sfi) (length area) asked ≡ true
   on-area sfi asked some t =
       join (subst (λ (n : ℕ). inArea (c .directory) (target c sfi) n ≡ true) (sym (h .area-size))
-      (place-in-area (c .directory) directory-sound (target c sfi) some (target-low c (h .is-sound) sfi))) t
+      (place-in-area (c .directory) directory-sound (target c sfi) some (target-low c (sound-good c area (h .is-sound)) sfi))) t
 
   run-inside : (sfi a n : ℕ) → 1 ≤ target c sfi → a + n ≤ size (fileOf c (target c sfi)) → start (c .directory) (target c sfi) + a + n ≤ length area
   run-inside sfi a n some k =
-      omega (arith, place-run (c .directory) directory-sound (target c sfi) some (target-low c (h .is-sound) sfi) a n k, h .area-size)
-
-  held : (sfi : ℕ) → 1 ≤ target c sfi → soundHeld (fileOf c (target c sfi)) ≡ true
-  held sfi some = place-held (c .directory) directory-sound (target c sfi) some (target-low c (h .is-sound) sfi)
+      omega (arith, place-run (c .directory) directory-sound (target c sfi) some (target-low c (sound-good c area (h .is-sound)) sfi) a n k, h .area-size)
 
   module _ (k : Command) (place : ℕ) (r : Carried) where
     pub binary-read : (off : ℕ) (reply reply′ : List ℕ) (answer : Bool) → first (readBinaryChecks c k) ≡ 0x9000 → k .le ≤ 256 → 256 ≤ length reply
@@ -114,46 +126,49 @@ module _ (c : Card) (area : List ℕ) (h : Ready c area) where
           area-is = stored-all _ area area′ _ (k .given) (on-area (binarySfi k) _ some asked) ((rw (e, f) at served) .left-is);
         }
 
-    pub record-read : (n : ℕ) (reply reply′ : List ℕ) (answer : Bool) → first (readRecordChecks c k) ≡ 0x9000 → 256 ≤ length reply → place ≡ recordTarget c k
-        → n ≡ recordLength (file (c .directory) place)
-        → Reading (onArea (c .directory) place (length area) (readsRecord (file (c .directory) place) (k .p1) (length reply))) (part (start (c .directory) place + recordStart (file (c .directory) place) (k .p1)) (recordLength (file (c .directory) place)) area) reply answer reply′
-        → r ≡ carried (withCurrent c place) 0x9000 0 n → Shows (readRecordEffect c k) area reply r reply′
-    unfolding readRecordChecks readsRecord
-    record-read n reply reply′ answer checked room e f served is =
-        let t = recordTarget c k in
-        let p = passed (readRecordChecks c k) checked in
-        let some = some-file t (p .1 .1 .0) in
-        let asked = record-asked c t (fileOf c t .read) (k .p1) _ (held (k .p2 / 8) some) (some-number k (p .0)) (p .1 .1) in
-        let short : recordLength (fileOf c t) ≤ 178 = place-shaped (c .directory) directory-sound t some (target-low c (h .is-sound) (k .p2 / 8)) .long in
-        reading-shows (withCurrent c t) (start (c .directory) t + recordStart (fileOf c t) (k .p1)) (recordLength (fileOf c t)) area reply reply′ _ answer r
-        (on-area (k .p2 / 8) _ some (join asked (le-leb (recordLength (fileOf c t)) (length reply) (omega arith))))
-        (rw e at served) (is ∙ ap₂ (λ (t m : ℕ). carried (withCurrent c t) 0x9000 0 m) e (f ∙ ap (λ (t : ℕ). recordLength (file (c .directory) t)) e))
-        (run-inside (k .p2 / 8) (recordStart (fileOf c t) (k .p1)) (recordLength (fileOf c t)) some (record-fits (fileOf c t) (k .p1) asked)) (omega arith)
+    -- a record that the checks took
+    module _ (l : Located) (is : l ≡ recordFound c area k) where
+      pub record-read : (n : ℕ) (reply reply′ : List ℕ) (answer : Bool) → first (readRecordChecks c l k) ≡ 0x9000 → 256 ≤ length reply → place ≡ recordTarget c k
+          → n ≡ l .length
+          → Reading (onArea (c .directory) place (length area) (readsRecord (file (c .directory) place) l (length reply))) (part (start (c .directory) place + l .start) (l .length) area) reply answer reply′
+          → r ≡ carried (withCurrent c place) 0x9000 0 n → Shows (readRecordEffect c l k) area reply r reply′
+      unfolding readRecordChecks
+      record-read n reply reply′ answer checked room e f served at =
+          let t = recordTarget c k in
+          let p = passed (readRecordChecks c (recordFound c area k) k) (rw is at checked) in
+          let some = some-file t (p .1 .1 .0) in
+          let short = read-long c area (h .is-sound) k some p in
+          rw is
+          (reading-shows (withCurrent c t) (start (c .directory) t + recordFound c area k .start) (recordFound c area k .length) area reply reply′ _ answer r
+          (on-area (k .p2 / 8) _ some (read-served c area (h .is-sound) k some p (length reply) (omega (arith, short))))
+          (rw (e, is) at served) (at ∙ ap₂ (λ (t m : ℕ). carried (withCurrent c t) 0x9000 0 m) e (f ∙ ap (λ (q : Located). q .length) is))
+          (run-inside (k .p2 / 8) (recordFound c area k .start) (recordFound c area k .length) some (read-fits c area (h .is-sound) k some p)) (omega (arith, short)))
 
-    pub record-updated : (area′ : List ℕ) (answer : Bool) → first (updateRecordChecks c k) ≡ 0x9000 → place ≡ recordTarget c k
-        → Writing (onArea (c .directory) place (length area) (updatesRecord (file (c .directory) place) (k .p1) (lc k))) area (start (c .directory) place + recordStart (file (c .directory) place) (k .p1)) (k .given) answer area′
-        → r ≡ carried (withCurrent c place) 0x9000 0 0 → Stores (updateRecordEffect c k) area r area′
-    record-updated area′ answer checked e served is =
-        let t = recordTarget c k in
-        let p = passed (updateRecordChecks c k) checked in
-        let some = some-file t (update-file c k p) in
-        record {
-          answer-is = is ∙ ap (λ (t : ℕ). carried (withCurrent c t) 0x9000 0 0) e;
-          area-is = stored-all _ area area′ _ (k .given) (on-area (k .p2 / 8) _ some (update-asked c k (held (k .p2 / 8) some) p)) ((rw e at served) .left-is);
-        }
+      pub record-updated : (area′ : List ℕ) (answer : Bool) → first (updateRecordChecks c l k) ≡ 0x9000 → place ≡ recordTarget c k
+          → Writing (onArea (c .directory) place (length area) (updatesRecord (file (c .directory) place) l (lc k))) area (start (c .directory) place + l .start) (k .given) answer area′
+          → r ≡ carried (withCurrent c place) 0x9000 0 0 → Stores (updateRecordEffect c l k) area r area′
+      record-updated area′ answer checked e served at =
+          let t = recordTarget c k in
+          let p = passed (updateRecordChecks c (recordFound c area k) k) (rw is at checked) in
+          let some = some-file t (update-file c (recordFound c area k) k p) in
+          rw is
+          (record {
+            answer-is = at ∙ ap (λ (t : ℕ). carried (withCurrent c t) 0x9000 0 0) e;
+            area-is = stored-all _ area area′ _ (k .given) (on-area (k .p2 / 8) _ some (update-served c area (h .is-sound) k some p)) ((rw (e, is) at served) .left-is);
+          })
 
     pub record-appended : (area′ : List ℕ) (answer : DirectoryAnswer) → first (appendChecks c k) ≡ 0x9000 → place ≡ recordTarget c k
-        → DirectoryWriting (onArea (c .directory) place (length area) (appendsRecord (file (c .directory) place) (lc k))) (withFile (c .directory) (place - 1) (appended (file (c .directory) place))) (c .directory) area (start (c .directory) place + nextStart (file (c .directory) place)) (k .given) answer area′
+        → DirectoryWriting (onArea (c .directory) place (length area) (appendsRecord (file (c .directory) place) (lc k))) (withFile (c .directory) (place - 1) (appended (file (c .directory) place) (lc k))) (c .directory) area (start (c .directory) place + nextStart (file (c .directory) place)) (entry (file (c .directory) place) (k .given)) answer area′
         → r ≡ carried (withCurrent (withDirectory c (answer .directory)) place) 0x9000 0 0 → Stores (appendEffect c k) area r area′
     record-appended area′ answer checked e served is =
         let t = recordTarget c k in
         let p = passed (appendChecks c k) checked in
         let some = some-file t (append-file c k p) in
-        let on = on-area (k .p2 / 8) _ some (append-asked c k (held (k .p2 / 8) some) p) in
+        let on = on-area (k .p2 / 8) _ some (appends c area (h .is-sound) k some p) in
         let at = rw e at served in
         record {
           answer-is = is ∙ ap₂ (λ (d : Directory) (t : ℕ). carried (withCurrent (withDirectory c d) t) 0x9000 0 0) (ap (λ (a : DirectoryAnswer). a .directory) (at .answer-is) ∙ rw on) e;
-          area-is = stored-all _ area area′ _ (k .given) on (at .left-is);
+          area-is = stored-all _ area area′ _ (entry (fileOf c t) (k .given)) on (at .left-is);
         }
 
   pub file-created : (k : Command) (f : File) (r : Carried) (place : ℕ) (area′ : List ℕ) (answer : DirectoryAnswer) → first (createChecks c k) ≡ 0x9000 → f ≡ fileGiven k

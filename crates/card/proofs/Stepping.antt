@@ -1,16 +1,14 @@
 -- From the command carried out to the whole call.
 -- Assumes nothing.
-use mathlib.Core.Path.{_≡_, refl, ap, ap₂, sym, _∙_, subst}
-use mathlib.Core.Bool.{Bool, true, false, cond}
-use mathlib.Core.List.{List, [], _∷_, _++_}
+use mathlib.Core.Path.{_≡_, ap, ap₂, sym, _∙_, subst}
+use mathlib.Core.Bool.{true, false}
+use mathlib.Core.List.{List, [], _∷_}
 use Prim.Native.Nat.{ℕ, _+_, _-_, _≤_, _<_}
 use native.Mathlib.Omega.{arith}
-use lib.Dec.{eqb, leb}
-use lib.ListN.{length, take, drop, length-append, length-drop, length-take}
-use lib.Seq.{length-take-le}
+use lib.ListN.{length, take, drop, length-append, length-drop}
 use borrow.Author.Tests.{eq-eqb, ne-eqb, le-leb, lt-leb}
 use Rattle.files.specs.Words.{isZero}
-use Rattle.files.specs.Part.{part, splice, over}
+use Rattle.files.specs.Part.{splice, over}
 use Rattle.files.proofs.Checks.{split}
 use Rattle.rules.specs.declared.Card.{Card}
 use Rattle.rules.specs.declared.Answer.{Answer}
@@ -18,30 +16,32 @@ use Rattle.rules.specs.declared.Ins.{Ins}
 use Rattle.rules.specs.Words.{byte, first, swBytes}
 use Rattle.rules.specs.State.{withChallenge}
 use Rattle.rules.specs.Sound.{sound}
-use Rattle.rules.specs.Frame.{Command, framed, frameSw, classSw, leOf}
+use Rattle.rules.specs.Frame.{Command, framed, frameSw, classSw}
 use Rattle.rules.specs.List.{rows, find, listed}
 use Rattle.rules.specs.Effect.{Effect, answers}
-use Rattle.rules.specs.Step.{checks, effectOf, swOf, outcome, settled, step}
-use Rattle.rules.specs.Calls.{answer, Done, command, served}
+use Rattle.files.specs.declared.Located.{Located}
+use Rattle.rules.specs.Step.{addressed, checks, effectOf, swOf, outcome, settled, step}
+use Rattle.rules.specs.Calls.{answer, command}
 use Rattle.rules.proofs.Checks.{passed}
 use Rattle.card.specs.declared.Header.{Header}
 use Rattle.card.specs.declared.Carried.{Carried}
 use Rattle.card.specs.Head.{headOf, commandOf}
 use Rattle.card.specs.Carried.{Carries, dataOf, Serves, Commands}
-use Rattle.card.proofs.Carrying.{quiet, with-sw}
+use Rattle.card.proofs.Carrying.{with-sw}
+use Rattle.card.proofs.Serving.{addressed-given}
 
 -- ---- the checks decide
-module _ (i : Ins) (c : Card) (k : Command) (random : List ℕ) where
-  pub own-passed : swOf i c k ≡ 0x9000 → first (checks i c k) ≡ 0x9000
-  own-passed h = passed (frameSw k ∷ classSw k ∷ first (checks i c k) ∷ []) h .1 .1 .0
+module _ (i : Ins) (c : Card) (l : Located) (k : Command) (random : List ℕ) where
+  pub own-passed : swOf i c l k ≡ 0x9000 → first (checks i c l k) ≡ 0x9000
+  own-passed h = passed (frameSw k ∷ classSw k ∷ first (checks i c l k) ∷ []) h .1 .1 .0
 
-  pub goes-on : swOf i c k ≡ 0x9000 → effectOf i c k random ≡ outcome i c k random
+  pub goes-on : swOf i c l k ≡ 0x9000 → effectOf i c l k random ≡ outcome i c l k random
   unfolding outcome
-  goes-on h = rw (eq-eqb (swOf i c k) 0x9000 h)
+  goes-on h = rw (eq-eqb (swOf i c l k) 0x9000 h)
 
-  pub stops : (swOf i c k ≡ 0x9000 → ⊥) → answers (swOf i c k) c ≡ outcome i c k random
+  pub stops : (swOf i c l k ≡ 0x9000 → ⊥) → answers (swOf i c l k) c ≡ outcome i c l k random
   unfolding outcome
-  stops h = rw (ne-eqb (swOf i c k) 0x9000 h)
+  stops h = rw (ne-eqb (swOf i c l k) 0x9000 h)
 
 -- ---- bounds
 pub le-few : (s : List ℕ) (h : Header) → h ≡ headOf s → byte s 4 < 256 → h .le ≤ 256
@@ -61,13 +61,14 @@ room-for-sw {e} {random} {area} {reply} w h =
 -- ---- a served command
 module _ (c : Card) (area cmd random reply : List ℕ) (h : Header) (given : List ℕ) (ins : Ins) (r : Carried) (area′ reply′ : List ℕ) where
   pub stepped : (next : Card) (ans : Answer) (reply″ : List ℕ) → h ≡ headOf cmd → given ≡ take (byte cmd 4) (drop 5 cmd) → ins ≡ find rows (h .cla) (h .ins)
-      → Carries (outcome ins c (commandOf h given) random) random area reply r area′ reply′ → next ≡ withChallenge (r .card) (take (r .said) random)
+      → Carries (outcome ins c (addressed ins c area (commandOf h [])) (commandOf h given) random) random area reply r area′ reply′ → next ≡ withChallenge (r .card) (take (r .said) random)
       → reply″ ≡ splice reply′ (r .n) (swBytes (r .sw)) → ans ≡ answer 0 next (r .n + 2) → Serves (step c area cmd random) reply ans area′ reply″
   unfolding step settled framed listed headOf
   stepped next ans reply″ eh eg ei w en er ea =
       let k : commandOf h given ≡ framed cmd = ap₂ commandOf eh eg in
       let i : ins ≡ listed (framed cmd) = ei ∙ ap (λ (x : Header). find rows (x .cla) (x .ins)) eh in
-      let e : outcome ins c (commandOf h given) random ≡ outcome (listed (framed cmd)) c (framed cmd) random = ap₂ (λ (x : Ins) (y : Command). outcome x c y random) i k in
+      let e : outcome ins c (addressed ins c area (commandOf h [])) (commandOf h given) random ≡ outcome (listed (framed cmd)) c (addressed (listed (framed cmd)) c area (framed cmd)) (framed cmd) random =
+      ap (λ (z : Located). outcome ins c z (commandOf h given) random) (addressed-given c area h given ins) ∙ ap₂ (λ (x : Ins) (y : Command). outcome x c (addressed x c area y) y random) i k in
       let w′ = rw e at w in
       record {
         answer-is = ea ∙ ap₂ (λ (x : Card) (n : ℕ). answer 0 x (n + 2)) (en ∙ ap₂ withChallenge (w′ .card-is) (w′ .said-is)) (w′ .n-is);
@@ -99,7 +100,7 @@ module _ (c : Card) (area cmd random reply : List ℕ) where
           record { answer-is = e ∙ rw (t, u, v); area-is = rw (t, u, v); reply-is = rw (t, u, v) }
 
       module _ (fresh : length random ≡ 16) where
-        pub refused-state : sound c ≡ false → (r : Answer) → r ≡ answer 4 c 0 → Commands (command c area cmd random reply) r area reply
+        pub refused-state : sound c area ≡ false → (r : Answer) → r ≡ answer 4 c 0 → Commands (command c area cmd random reply) r area reply
         unfolding command
         refused-state h r e =
             let t = le-leb 258 (length reply) big in
@@ -107,7 +108,7 @@ module _ (c : Card) (area cmd random reply : List ℕ) where
             let v = eq-eqb (length random) 16 fresh in
             record { answer-is = e ∙ rw (t, u, v, h); area-is = rw (t, u, v, h); reply-is = rw (t, u, v, h) }
 
-        pub served-command : sound c ≡ true → (r : Answer) (area′ reply′ : List ℕ) → Serves (step c area cmd random) reply r area′ reply′
+        pub served-command : sound c area ≡ true → (r : Answer) (area′ reply′ : List ℕ) → Serves (step c area cmd random) reply r area′ reply′
             → Commands (command c area cmd random reply) r area′ reply′
         unfolding command
         served-command h r area′ reply′ s =

@@ -10,7 +10,7 @@ use crate::step::command;
 use rules::Card;
 
 // No function of the language says how large a value is; the contract does.
-const CARD_SIZE: usize = 222;
+const CARD_SIZE: usize = 254;
 
 // The bytes that a card takes.
 #[no_mangle]
@@ -25,7 +25,7 @@ pub extern "C" fn limpet_card_size() -> usize
 pub extern "C" fn limpet_version() -> u32
     ensures { λ r. ⌜ r ≡ version ⌝ }
 {
-    1
+    2
 }
 
 // The card before it does not matter; a refused issue leaves a blank one.
@@ -74,10 +74,10 @@ pub extern "C" fn limpet_command(
 }
 
 #[no_mangle]
-pub extern "C" fn limpet_reset(card: &mut Card) -> u8
-    ensures { λ r. ⌜ Placed (reset (now (card .entry))) r (now (card .exit)) ⌝ }
+pub extern "C" fn limpet_reset(card: &mut Card, area: &[u8]) -> u8
+    ensures { λ r. ⌜ Placed (reset (now (card .entry)) (now (area .entry))) r (now (card .exit)) ⌝ }
 {
-    let cleared = reset(*card);
+    let cleared = reset(*card, area);
     *card = cleared.card;
     cleared.outcome
 }

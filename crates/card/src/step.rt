@@ -5,7 +5,7 @@ ghost use Prim.Native.Nat.{_+_, _≤_};
 ghost use lib.ListN.{length};
 ghost use Rattle.files.specs.Part.{splice};
 ghost use Rattle.rules.specs.Words.{first, swBytes};
-ghost use Rattle.rules.specs.Step.{checks, effectOf, swOf, outcome, step};
+ghost use Rattle.rules.specs.Step.{seeksRecord, addressed, checks, effectOf, swOf, outcome, step};
 ghost use Rattle.rules.specs.Calls.{command};
 ghost use Rattle.rules.specs.Device.{getChallengeChecks, getChallengeEffect};
 ghost use Rattle.card.specs.Head.{commandOf};
@@ -27,7 +27,9 @@ use crate::state::carried;
 use crate::state::quietly;
 use crate::state::with_challenge;
 use crate::words::or_else;
+use files::Located;
 use files::run::store;
+use files::state::nowhere;
 use rules::Answer;
 use rules::Card;
 use rules::Ins;
@@ -36,16 +38,47 @@ pub const REPLY_SIZE: usize = 258;
 
 pub const RANDOM_SIZE: usize = 16;
 
-// The command's own checks.
-fn own_sw(ins: Ins, card: Card, h: Header, given: &[u8]) -> u16
-    ensures { λ r. ⌜ r ≡ first (checks ins card (commandOf h (now (given .entry)))) ⌝ }
+// READ and UPDATE RECORD address a record by its number.
+fn seeks_record(ins: Ins) -> bool
+    ensures { λ r. ⌜ r ≡ seeksRecord ins ⌝ }
+{
+    match ins {
+        Ins::Select => false,
+        Ins::ReadBinary => false,
+        Ins::UpdateBinary => false,
+        Ins::ReadRecord => true,
+        Ins::UpdateRecord => true,
+        Ins::AppendRecord => false,
+        Ins::Verify => false,
+        Ins::Authenticate => false,
+        Ins::ChangePin => false,
+        Ins::ReloadPin => false,
+        Ins::CreateFile => false,
+        Ins::GetChallenge => false,
+        Ins::Unlisted => false,
+    }
+}
+
+// The record that the command addresses. No other command looks for one.
+fn addressed(ins: Ins, card: Card, area: &[u8], h: Header) -> Located
+    ensures { λ r. ⌜ r ≡ addressed ins card (now (area .entry)) (commandOf h []) ⌝ }
+{
+    if seeks_record(ins) {
+        return record::record_found(card, area, h);
+    }
+    nowhere()
+}
+
+// The command's own checks, l the record that it addresses.
+fn own_sw(ins: Ins, card: Card, l: Located, h: Header, given: &[u8]) -> u16
+    ensures { λ r. ⌜ r ≡ first (checks ins card l (commandOf h (now (given .entry)))) ⌝ }
 {
     match ins {
         Ins::Select => select::select_sw(card, h, given),
         Ins::ReadBinary => binary::read_binary_sw(card, h),
         Ins::UpdateBinary => binary::update_binary_sw(card, h, given),
-        Ins::ReadRecord => record::read_record_sw(card, h),
-        Ins::UpdateRecord => record::update_record_sw(card, h, given),
+        Ins::ReadRecord => record::read_record_sw(card, l, h),
+        Ins::UpdateRecord => record::update_record_sw(card, l, h, given),
         Ins::AppendRecord => record::append_sw(card, h, given),
         Ins::Verify => pins::verify_sw(card, h, given),
         Ins::Authenticate => device::authenticate_sw(card, h, given),
@@ -58,12 +91,12 @@ fn own_sw(ins: Ins, card: Card, h: Header, given: &[u8]) -> u16
 }
 
 // Framing, class, list, the command's own checks.
-fn sw_of(ins: Ins, card: Card, h: Header, given: &[u8]) -> u16
-    ensures { λ r. ⌜ r ≡ swOf ins card (commandOf h (now (given .entry))) ⌝ }
+fn sw_of(ins: Ins, card: Card, l: Located, h: Header, given: &[u8]) -> u16
+    ensures { λ r. ⌜ r ≡ swOf ins card l (commandOf h (now (given .entry))) ⌝ }
 {
     let a = frame::frame_sw(h);
     let b = frame::class_sw(h);
-    let c = own_sw(ins, card, h, given);
+    let c = own_sw(ins, card, l, h, given);
     or_else(a, or_else(b, c))
 }
 
@@ -71,6 +104,7 @@ fn sw_of(ins: Ins, card: Card, h: Header, given: &[u8]) -> u16
 fn carry_out(
     ins: Ins,
     card: Card,
+    l: Located,
     area: &mut [u8],
     h: Header,
     given: &[u8],
@@ -79,15 +113,15 @@ fn carry_out(
 ) -> Carried
     requires { ⌜ Ready card (now area) ⌝ }
     requires { ⌜ (h .le ≤ 256) × (length (now random) ≡ 16) × (256 ≤ length (now reply)) ⌝ }
-    requires { ⌜ first (checks ins card (commandOf h (now given))) ≡ 0x9000 ⌝ }
-    ensures { λ r. ⌜ Carries (effectOf ins card (commandOf h (now (given .entry))) (now (random .entry))) (now (random .entry)) (now (area .entry)) (now (reply .entry)) r (now (area .exit)) (now (reply .exit)) ⌝ }
+    requires { ⌜ (l ≡ addressed ins card (now area) (commandOf h [])) × (first (checks ins card l (commandOf h (now given))) ≡ 0x9000) ⌝ }
+    ensures { λ r. ⌜ Carries (effectOf ins card l (commandOf h (now (given .entry))) (now (random .entry))) (now (random .entry)) (now (area .entry)) (now (reply .entry)) r (now (area .exit)) (now (reply .exit)) ⌝ }
 {
     match ins {
         Ins::Select => quietly(select::select(card, h, given), 0x9000),
         Ins::ReadBinary => binary::read_binary(card, area, h, reply),
         Ins::UpdateBinary => binary::update_binary(card, area, h, given),
-        Ins::ReadRecord => record::read_record(card, area, h, reply),
-        Ins::UpdateRecord => record::update_record(card, area, h, given),
+        Ins::ReadRecord => record::read_record(card, l, area, h, reply),
+        Ins::UpdateRecord => record::update_record(card, l, area, h, given),
         Ins::AppendRecord => record::append_record(card, area, h, given),
         Ins::Verify => pins::verify(card, h, given),
         Ins::Authenticate => device::authenticate(card, h, given),
@@ -111,11 +145,12 @@ fn ruled(
 ) -> Carried
     requires { ⌜ Ready card (now area) ⌝ }
     requires { ⌜ (h .le ≤ 256) × (length (now random) ≡ 16) × (256 ≤ length (now reply)) ⌝ }
-    ensures { λ r. ⌜ Carries (outcome ins card (commandOf h (now (given .entry))) (now (random .entry))) (now (random .entry)) (now (area .entry)) (now (reply .entry)) r (now (area .exit)) (now (reply .exit)) ⌝ }
+    ensures { λ r. ⌜ Carries (outcome ins card (addressed ins card (now (area .entry)) (commandOf h [])) (commandOf h (now (given .entry))) (now (random .entry))) (now (random .entry)) (now (area .entry)) (now (reply .entry)) r (now (area .exit)) (now (reply .exit)) ⌝ }
 {
-    let sw = sw_of(ins, card, h, given);
+    let l = addressed(ins, card, area, h);
+    let sw = sw_of(ins, card, l, h, given);
     if sw == 0x9000 {
-        return carry_out(ins, card, area, h, given, random, reply);
+        return carry_out(ins, card, l, area, h, given, random, reply);
     }
     quietly(card, sw)
 }
@@ -159,7 +194,7 @@ pub fn command(card: Card, area: &mut [u8], cmd: &[u8], random: &[u8], reply: &m
     if random.len() != RANDOM_SIZE {
         return answer(3, card, 0);
     }
-    if !is_sound(card) {
+    if !is_sound(card, area) {
         return answer(4, card, 0);
     }
     step(card, area, cmd, random, reply)

@@ -1,16 +1,15 @@
 -- The card's credentials and challenge are the ledger's, after any list of calls.
-use Prim.Native.Nat.{ℕ, _+_, _-_, _≤_}
+use Prim.Native.Nat.{ℕ, _+_, _-_}
 use mathlib.Core.Bool.{Bool, true, false, cond}
 use mathlib.Core.List.{List, [], _∷_}
 use mathlib.Core.Path.{_≡_, refl, sym, ap, _∙_}
 use native.Mathlib.Omega.{arith}
-use lib.ListN.{length, take}
 use lib.Dec.{eqb}
-use Rattle.files.specs.Part.{over}
+use Rattle.files.specs.declared.Located.{Located}
 use Rattle.rules.specs.declared.Card.{Card}
 use Rattle.rules.specs.declared.Ins.{Ins}
 use Rattle.rules.specs.declared.Ins.the-variants.{Select, ReadBinary, UpdateBinary, ReadRecord, UpdateRecord, AppendRecord, Verify, Authenticate, ChangePin, ReloadPin, CreateFile, GetChallenge, Unlisted}
-use Rattle.rules.specs.Words.{same, filled}
+use Rattle.rules.specs.Words.{same}
 use Rattle.rules.specs.Tries.{lowered, restored}
 use Rattle.rules.specs.State.{Which, device, admin, user, Login, Logins, login, logins, challenge, withValue, withLogin}
 use Rattle.rules.specs.Frame.{Command, framed}
@@ -18,12 +17,12 @@ use Rattle.rules.specs.List.{listed}
 use Rattle.rules.specs.Effect.{Effect, becomes, answers, says}
 use Rattle.rules.specs.Pins.{pinNamed, compared, verifyEffect, changeEffect, reloadEffect}
 use Rattle.rules.specs.Device.{cryptogram, authenticateEffect}
-use Rattle.rules.specs.Step.{checks, effectOf, swOf, outcome, settled, step}
-use Rattle.rules.specs.Calls.{Order, fresh, cleared}
+use Rattle.rules.specs.Step.{addressed, checks, effectOf, swOf, outcome, settled, step}
+use Rattle.rules.specs.Calls.{Order, fresh}
 use Rattle.rules.proofs.Good.{filled-back}
-use Rattle.demands.specs.Ledger.{Event, sent, resets, Kind, other, right, wrong, changed, reloaded, ended, Page, valueSet, wrongSince, isHeld, told, Ledger, page, tells, about, presented, kind, challenged, booked, entered, servable, next, tell, ledger}
+use Rattle.demands.specs.Ledger.{Event, sent, resets, Kind, other, right, wrong, changed, reloaded, ended, Page, valueSet, wrongSince, isHeld, told, Ledger, tells, about, presented, kind, challenged, booked, entered, servable, next, tell, ledger}
 use Rattle.demands.specs.Run.{World, world, called, run, Served, after}
-use Rattle.demands.specs.Follows.{Agrees, CredentialsFollow, ChallengeFollows}
+use Rattle.demands.specs.Follows.{ChallengeFollows}
 use Rattle.demands.proofs.Live.{Live, call-live, after-live, issue-fresh, command-is, reset-is}
 
 -- what each kind does to a credential
@@ -72,32 +71,32 @@ module _ (c : Card) where
   query-or true e f h = refl
   query-or false e f h = h
 
-  row : (i : Ins) (k : Command) (random : List ℕ) → logins (outcome i c k random .card) ≡ acts (kind i (logins c) (challenge c) k) (logins c)
+  row : (i : Ins) (l : Located) (k : Command) (random : List ℕ) → logins (outcome i c l k random .card) ≡ acts (kind i (logins c) (challenge c) k) (logins c)
   unfolding outcome effectOf checks kind
-  row Select k random = quiet (eqb (swOf Select c k) 0x9000) _ (effectOf Select c k random) refl
-  row ReadBinary k random = quiet (eqb (swOf ReadBinary c k) 0x9000) _ (effectOf ReadBinary c k random) refl
-  row UpdateBinary k random = quiet (eqb (swOf UpdateBinary c k) 0x9000) _ (effectOf UpdateBinary c k random) refl
-  row ReadRecord k random = quiet (eqb (swOf ReadRecord c k) 0x9000) _ (effectOf ReadRecord c k random) refl
-  row UpdateRecord k random = quiet (eqb (swOf UpdateRecord c k) 0x9000) _ (effectOf UpdateRecord c k random) refl
-  row AppendRecord k random = quiet (eqb (swOf AppendRecord c k) 0x9000) _ (effectOf AppendRecord c k random) refl
-  row Verify k random =
-      passed-as (eqb (swOf Verify c k) 0x9000) _ (verifyEffect c k)
+  row Select l k random = quiet (eqb (swOf Select c l k) 0x9000) _ (effectOf Select c l k random) refl
+  row ReadBinary l k random = quiet (eqb (swOf ReadBinary c l k) 0x9000) _ (effectOf ReadBinary c l k random) refl
+  row UpdateBinary l k random = quiet (eqb (swOf UpdateBinary c l k) 0x9000) _ (effectOf UpdateBinary c l k random) refl
+  row ReadRecord l k random = quiet (eqb (swOf ReadRecord c l k) 0x9000) _ (effectOf ReadRecord c l k random) refl
+  row UpdateRecord l k random = quiet (eqb (swOf UpdateRecord c l k) 0x9000) _ (effectOf UpdateRecord c l k random) refl
+  row AppendRecord l k random = quiet (eqb (swOf AppendRecord c l k) 0x9000) _ (effectOf AppendRecord c l k random) refl
+  row Verify l k random =
+      passed-as (eqb (swOf Verify c l k) 0x9000) _ (verifyEffect c k)
       (λ w. cond (eqb (k .case) 1) other (about (pinNamed k) w (presented (login (pinNamed k) c .value) k)))
       (query-or (eqb (k .case) 1) (compared (pinNamed k) c (same (login (pinNamed k) c .value) (k .given)))
       (λ w. about (pinNamed k) w (presented (login (pinNamed k) c .value) k))
       (compare (pinNamed k) (same (login (pinNamed k) c .value) (k .given))))
-  row Authenticate k random =
-      passed-as (eqb (swOf Authenticate c k) 0x9000) _ (authenticateEffect c k)
+  row Authenticate l k random =
+      passed-as (eqb (swOf Authenticate c l k) 0x9000) _ (authenticateEffect c k)
       (λ w. about device w (presented (cryptogram (login device c .value) (challenge c)) k))
       (compare device (same (cryptogram (login device c .value) (challenge c)) (k .given)))
-  row ChangePin k random =
-      passed-as (eqb (swOf ChangePin c k) 0x9000) _ (changeEffect c k) (λ w. about (pinNamed k) w (changed (k .given)))
+  row ChangePin l k random =
+      passed-as (eqb (swOf ChangePin c l k) 0x9000) _ (changeEffect c k) (λ w. about (pinNamed k) w (changed (k .given)))
       (change (pinNamed k) (k .given))
-  row ReloadPin k random =
-      passed-as (eqb (swOf ReloadPin c k) 0x9000) _ (reloadEffect c k) (λ w. about user w (reloaded (k .given))) (reload (k .given))
-  row CreateFile k random = quiet (eqb (swOf CreateFile c k) 0x9000) _ (effectOf CreateFile c k random) refl
-  row GetChallenge k random = quiet (eqb (swOf GetChallenge c k) 0x9000) _ (effectOf GetChallenge c k random) refl
-  row Unlisted k random = quiet (eqb (swOf Unlisted c k) 0x9000) _ (effectOf Unlisted c k random) refl
+  row ReloadPin l k random =
+      passed-as (eqb (swOf ReloadPin c l k) 0x9000) _ (reloadEffect c k) (λ w. about user w (reloaded (k .given))) (reload (k .given))
+  row CreateFile l k random = quiet (eqb (swOf CreateFile c l k) 0x9000) _ (effectOf CreateFile c l k random) refl
+  row GetChallenge l k random = quiet (eqb (swOf GetChallenge c l k) 0x9000) _ (effectOf GetChallenge c l k random) refl
+  row Unlisted l k random = quiet (eqb (swOf Unlisted c l k) 0x9000) _ (effectOf Unlisted c l k random) refl
 
   -- only GET CHALLENGE says bytes of itself
   silent : (b : Bool) (sw : ℕ) (e : Effect) → e .says ≡ [] → cond b e (answers sw c) .says ≡ []
@@ -117,22 +116,22 @@ module _ (c : Card) where
   said true sw d = refl
   said false sw d = refl
 
-  leaves : (i : Ins) (k : Command) (random : List ℕ) → outcome i c k random .says ≡ challenged i k random
+  leaves : (i : Ins) (l : Located) (k : Command) (random : List ℕ) → outcome i c l k random .says ≡ challenged i k random
   unfolding outcome effectOf checks challenged
-  leaves Select k random = silent (eqb (swOf Select c k) 0x9000) _ (effectOf Select c k random) refl
-  leaves ReadBinary k random = silent (eqb (swOf ReadBinary c k) 0x9000) _ (effectOf ReadBinary c k random) refl
-  leaves UpdateBinary k random = silent (eqb (swOf UpdateBinary c k) 0x9000) _ (effectOf UpdateBinary c k random) refl
-  leaves ReadRecord k random = silent (eqb (swOf ReadRecord c k) 0x9000) _ (effectOf ReadRecord c k random) refl
-  leaves UpdateRecord k random = silent (eqb (swOf UpdateRecord c k) 0x9000) _ (effectOf UpdateRecord c k random) refl
-  leaves AppendRecord k random = silent (eqb (swOf AppendRecord c k) 0x9000) _ (effectOf AppendRecord c k random) refl
-  leaves Verify k random =
-      silent (eqb (swOf Verify c k) 0x9000) _ (verifyEffect c k) (query-silent (eqb (k .case) 1) _ (compare-silent (pinNamed k) _))
-  leaves Authenticate k random = silent (eqb (swOf Authenticate c k) 0x9000) _ (authenticateEffect c k) (compare-silent device _)
-  leaves ChangePin k random = silent (eqb (swOf ChangePin c k) 0x9000) _ (changeEffect c k) refl
-  leaves ReloadPin k random = silent (eqb (swOf ReloadPin c k) 0x9000) _ (reloadEffect c k) refl
-  leaves CreateFile k random = silent (eqb (swOf CreateFile c k) 0x9000) _ (effectOf CreateFile c k random) refl
-  leaves GetChallenge k random = said (eqb (swOf GetChallenge c k) 0x9000) _ _
-  leaves Unlisted k random = silent (eqb (swOf Unlisted c k) 0x9000) _ (effectOf Unlisted c k random) refl
+  leaves Select l k random = silent (eqb (swOf Select c l k) 0x9000) _ (effectOf Select c l k random) refl
+  leaves ReadBinary l k random = silent (eqb (swOf ReadBinary c l k) 0x9000) _ (effectOf ReadBinary c l k random) refl
+  leaves UpdateBinary l k random = silent (eqb (swOf UpdateBinary c l k) 0x9000) _ (effectOf UpdateBinary c l k random) refl
+  leaves ReadRecord l k random = silent (eqb (swOf ReadRecord c l k) 0x9000) _ (effectOf ReadRecord c l k random) refl
+  leaves UpdateRecord l k random = silent (eqb (swOf UpdateRecord c l k) 0x9000) _ (effectOf UpdateRecord c l k random) refl
+  leaves AppendRecord l k random = silent (eqb (swOf AppendRecord c l k) 0x9000) _ (effectOf AppendRecord c l k random) refl
+  leaves Verify l k random =
+      silent (eqb (swOf Verify c l k) 0x9000) _ (verifyEffect c k) (query-silent (eqb (k .case) 1) _ (compare-silent (pinNamed k) _))
+  leaves Authenticate l k random = silent (eqb (swOf Authenticate c l k) 0x9000) _ (authenticateEffect c k) (compare-silent device _)
+  leaves ChangePin l k random = silent (eqb (swOf ChangePin c l k) 0x9000) _ (changeEffect c k) refl
+  leaves ReloadPin l k random = silent (eqb (swOf ReloadPin c l k) 0x9000) _ (reloadEffect c k) refl
+  leaves CreateFile l k random = silent (eqb (swOf CreateFile c l k) 0x9000) _ (effectOf CreateFile c l k random) refl
+  leaves GetChallenge l k random = said (eqb (swOf GetChallenge c l k) 0x9000) _ _
+  leaves Unlisted l k random = silent (eqb (swOf Unlisted c l k) 0x9000) _ (effectOf Unlisted c l k random) refl
 
 -- a page tells what its latest kind does
 tell-kind : (x : Kind) (p : Page) → told (booked x p) ≡ act x (told p)
@@ -168,10 +167,10 @@ step-agrees : (c : Card) (l : Ledger) (area cmd random : List ℕ) → Agree c l
 unfolding step settled
 step-agrees c l area cmd random h = record {
   logins-are =
-      row c (listed (framed cmd)) (framed cmd) random
+      row c (listed (framed cmd)) (addressed (listed (framed cmd)) c area (framed cmd)) (framed cmd) random
       ∙ both-same (listed (framed cmd)) (framed cmd) (logins c) (tells l) (challenge c) (l .challenge) (h .logins-are) (h .challenge-is)
       ∙ sym (tells-entered l (framed cmd) random);
-  challenge-is = filled-back _ ∙ leaves c (listed (framed cmd)) (framed cmd) random;
+  challenge-is = filled-back _ ∙ leaves c (listed (framed cmd)) (addressed (listed (framed cmd)) c area (framed cmd)) (framed cmd) random;
 }
 
 call-agrees : (w : World) (l : Ledger) (e : Event) → Live w → Agree (w .card) l → Agree (called w e .card) (next l e)

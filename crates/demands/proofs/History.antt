@@ -1,49 +1,50 @@
 -- Files over any list of calls after a served issue, with the rights of the ledger.
 use Prim.Native.Nat.{ℕ, _+_, _/_, _%_, _≤_}
-use mathlib.Core.Bool.{Bool, true, false, cond, _&&_, not}
+use mathlib.Core.Bool.{Bool, true, false, cond, not}
 use mathlib.Core.List.{List, [], _∷_, _++_}
 use mathlib.Core.Logic.{_⊎_, inl, inr, ⊎-elim}
 use mathlib.Core.Path.{_≡_, refl, sym, ap, _∙_}
 use native.Mathlib.Omega.{arith}
 use lib.ListN.{length}
 use lib.Dec.{eqb, leb}
-use borrow.Author.Tests.{eqb-true, eqb-false, eq-eqb, le-leb, not-true}
-use Rattle.files.specs.declared.File.{File}
+use borrow.Author.Tests.{eqb-true, eqb-false, not-true}
 use Rattle.files.specs.declared.Directory.{Directory}
-use Rattle.files.specs.Part.{part, splice, over}
+use Rattle.files.specs.declared.Located.{Located}
+use Rattle.files.specs.Part.{over}
 use Rattle.files.specs.Types.{size}
 use Rattle.files.specs.Rights.{never, marked, asks, allowed}
-use Rattle.files.specs.Directory.{used, file, start, extent, isPlace}
+use Rattle.files.specs.Directory.{start, extent, isPlace, inArea}
 use Rattle.files.specs.Words.{isZero}
 use Rattle.files.specs.Create.{areaSize, created}
 use Rattle.files.proofs.Checks.{each, both, split}
-use Rattle.files.proofs.Parts.{Apart, part-apart}
-use Rattle.files.proofs.Extents.{place-is}
+use Rattle.files.proofs.Parts.{part-apart}
+use Rattle.files.proofs.Extents.{place-is, lies}
+use Rattle.files.proofs.Kept.{lies-in-area}
 use Rattle.rules.specs.declared.Card.{Card}
 use Rattle.rules.specs.declared.Ins.{Ins}
 use Rattle.rules.specs.declared.Ins.the-variants.{Select, ReadBinary, UpdateBinary, ReadRecord, UpdateRecord, AppendRecord, Verify, Authenticate, ChangePin, ReloadPin, CreateFile, GetChallenge, Unlisted}
 use Rattle.rules.specs.Words.{swBytes}
-use Rattle.rules.specs.State.{Which, device, admin, user, Logins, logins, withValue}
-use Rattle.rules.specs.Sound.{sound}
+use Rattle.rules.specs.State.{Which, device, admin, user, Logins}
 use Rattle.rules.specs.Frame.{Command, framed}
 use Rattle.rules.specs.List.{listed}
-use Rattle.rules.specs.Effect.{Effect, answers}
+use Rattle.rules.specs.Effect.{Effect}
 use Rattle.rules.specs.Binary.{fileOf}
-use Rattle.rules.specs.Pins.{pinNamed, heldSw, compared}
+use Rattle.rules.specs.Pins.{pinNamed, compared}
 use Rattle.rules.specs.Create.{createChecks}
-use Rattle.rules.specs.Step.{checks, effectOf, outcome, settled, step}
-use Rattle.rules.specs.Calls.{Done, Order, replySize, randomSize, answer, refused, served, command}
+use Rattle.rules.specs.Step.{addressed, checks, effectOf, outcome, settled, step}
+use Rattle.rules.specs.Calls.{replySize, randomSize, answer, refused, served, command}
 use Rattle.rules.proofs.Checks.{Passed, holds, one-of, ruled-by}
-use Rattle.rules.proofs.Good.{good}
+use Rattle.rules.proofs.Good.{sound-good, sound-parted}
 use Rattle.rules.proofs.Targets.{used-count, place-named}
-use Rattle.demands.specs.Ledger.{Event, sent, resets, isHeld, Ledger, servable, ledger}
-use Rattle.demands.specs.Run.{World, world, left, called, Served, after}
-use Rattle.demands.specs.Files.{writesTo, readsFrom, Opens, Written, Read, Writes, Stays, Altered, Alike, AlikeBut, SameBut, Shown, Made, Makes, Created}
+use Rattle.demands.specs.Ledger.{Event, sent, resets, Ledger, servable, ledger}
+use Rattle.demands.specs.Run.{World, world, called, after}
+use Rattle.demands.specs.Files.{writesTo, readsFrom, Opens, Written, Read, Writes, Stays, Altered, AlikeBut, SameBut, Shown, Made, Makes, Created}
 use Rattle.demands.proofs.Soundness.{leaves, step-sound}
 use Rattle.demands.proofs.Live.{Live, after-live, command-served, command-is, reset-is}
 use Rattle.demands.proofs.Follows.{Agree, follows}
-use Rattle.demands.proofs.Files.{By, Kept, Treats, value-files, login-files, treats}
+use Rattle.demands.proofs.Files.{By, Kept, Treats, value-files, login-files, treats, treated-lengths}
 use Rattle.demands.proofs.Alike.{alike-splice, alike-part}
+use Rattle.demands.proofs.Others.{addressed-same, sound-same}
 
 -- a set bit's right is held
 asked-one : (bit : ℕ) (held : Bool) → asks bit held ≡ true → bit ≡ 1 → held ≡ true
@@ -70,19 +71,19 @@ module _ (c : Card) (area cmd random : List ℕ) (live : Live (world c area)) (p
   i = listed (framed cmd)
 
   abbrev e : Effect
-  e = outcome (listed (framed cmd)) c (framed cmd) random
+  e = outcome (listed (framed cmd)) c (addressed (listed (framed cmd)) c area (framed cmd)) (framed cmd) random
 
   some : 1 ≤ place
   some = place-is (c .directory) place here .0
 
   low : place ≤ c .directory .count
-  low = rw (← used-count (c .directory) (good c (live .sound-card) .directory)) (place-is (c .directory) place here .1)
+  low = rw (← used-count (c .directory) (sound-good c area (live .sound-card) .directory)) (place-is (c .directory) place here .1)
 
-  treated : Treats c place (listed (framed cmd)) (framed cmd) (outcome (listed (framed cmd)) c (framed cmd) random)
-  treated = treats c (live .sound-card) place some low (framed cmd) random (listed (framed cmd))
+  treated : Treats c area place (listed (framed cmd)) (framed cmd) (outcome (listed (framed cmd)) c (addressed (listed (framed cmd)) c area (framed cmd)) (framed cmd) random)
+  treated = treats c area (live .sound-card) place some low (framed cmd) random (listed (framed cmd))
 
   fits : (bytes : List ℕ) → length bytes ≡ areaSize → e .into + length (e .stores) ≤ length bytes
-  fits bytes q = rw q (leaves c (live .sound-card) (framed cmd) random (listed (framed cmd)) .stored)
+  fits bytes q = rw q (leaves c area (live .sound-card) (framed cmd) random (listed (framed cmd)) .stored)
 
   abbrev stepped : World
   stepped = world (step c area cmd random .card) (step c area cmd random .area)
@@ -92,31 +93,40 @@ module _ (c : Card) (area cmd random : List ℕ) (live : Live (world c area)) (p
   step-alters l =
       ⊎-elim
       (λ (k : Kept c place e). inl (record {
-        there = place-named _ (good _ (step-sound c area cmd random (live .sound-card) l) .directory) place some (treated .there);
+        there = place-named _ (sound-good _ _ (step-sound c area cmd random (live .sound-card) (live .size-is) l) .directory) place some (treated .there);
         file-is = k .file-is;
         bytes-are =
             rw (treated .start-is, k .file-is)
             (part-apart area (e .into) (e .stores) (start (c .directory) place) (size (fileOf c place)) (fits area (live .size-is)) (k .apart));
       }))
-      inr (treated .kept)
+      (λ q. inr (q .0)) (treated .kept)
 
   -- on an area that differs in the file's bytes alone
   module _ (other : List ℕ) (alike : AlikeBut c place area other) where
+    here-in : inArea (c .directory) place (length area) ≡ true
+    here-in = lies-in-area (c .directory) area (sound-parted c area (live .sound-card)) place here
+
     pub step-same : (reply : List ℕ)
         → SameBut place (served (step c area cmd random) reply) (served (step c other cmd random) reply)
         ⊎ By c place (readsFrom (listed (framed cmd)) c (framed cmd)) (λ f. f .read)
     unfolding step settled
     step-same reply =
-        ⊎-elim
-        (λ a. let bytes = alike-part (start (c .directory) place) (size (fileOf c place)) area other alike (e .from) (e .shows) a in
+        rw (← addressed-same c area other place (live .sound-card) here alike (listed (framed cmd)) (framed cmd))
+        (⊎-elim
+        (λ a. let bytes = alike-part (start (c .directory) place) (size (fileOf c place)) area other (alike .but-bytes) (e .from) (e .shows) a in
         inl (record {
           answer-is = ap (λ z. answer 0 (step c area cmd random .card) (length (e .says ++ z) + 2)) bytes;
           reply-is = ap (λ z. over ((e .says ++ z) ++ swBytes (e .sw)) reply) bytes;
-          areas =
-              rw (treated .start-is, treated .size-is)
-              (alike-splice (start (c .directory) place) (size (fileOf c place)) area other alike (e .into) (e .stores) (fits area (live .size-is)));
+          areas = record {
+            but-bytes =
+                rw (treated .start-is, treated .size-is)
+                (alike-splice (start (c .directory) place) (size (fileOf c place)) area other (alike .but-bytes) (e .into) (e .stores) (fits area (live .size-is)));
+            lengths-are =
+                treated-lengths c area place (listed (framed cmd)) (framed cmd) e treated (lies (c .directory) place (length area) here-in .fits)
+                (fits area (live .size-is)) other (sym (alike .but-bytes .length-is)) (alike .lengths-are);
+          };
         }))
-        inr (treated .hidden)
+        inr (treated .hidden))
 
 module _ (c : Card) (area : List ℕ) (live : Live (world c area)) (l : Ledger) (agree : Agree c l) where
   -- the next call, and a file
@@ -135,7 +145,7 @@ module _ (c : Card) (area : List ℕ) (live : Live (world c area)) (l : Ledger) 
   call-shows : (cmd random reply other : List ℕ) (place : ℕ) → isPlace (c .directory) place ≡ true → AlikeBut c place area other
       → SameBut place (command c area cmd random reply) (command c other cmd random reply) ⊎ Read c l cmd place
   call-shows cmd random reply other place here alike =
-      let there : Live (world c other) = record { sound-card = live .sound-card; size-is = sym (alike .length-is) ∙ live .size-is } in
+      let there : Live (world c other) = record { sound-card = sound-same c area other place (live .sound-card) here alike; size-is = sym (alike .but-bytes .length-is) ∙ live .size-is } in
       rw (command-served c area live cmd random reply, command-served c other there cmd random reply)
       (go (leb replySize (length reply)) (eqb (length random) randomSize))
     where
@@ -158,7 +168,7 @@ shown o area es h cmd random reply other place here alike =
     call-shows _ _ (after-live o area es h) (ledger o es) (follows o area es h) cmd random reply other place here alike
 
 -- how many files an effect leaves
-module _ (c : Card) (k : Command) (random : List ℕ) where
+module _ (c : Card) (l : Located) (k : Command) (random : List ℕ) where
   -- as many, or one more by CREATE FILE with the device right
   abbrev Counts : Ins → Effect → Type 0
   Counts i e =
@@ -173,7 +183,7 @@ module _ (c : Card) (k : Command) (random : List ℕ) where
   compare-counts i w agrees =
       split (Counts i) agrees (λ e. inl (same-count (login-files c w _ true))) (λ e. inl (same-count (login-files c w _ false)))
 
-  count-row : (i : Ins) → Passed (checks i c k) → Counts i (effectOf i c k random)
+  count-row : (i : Ins) → Passed (checks i c l k) → Counts i (effectOf i c l k random)
   unfolding checks effectOf createChecks created
   count-row Select p = inl refl
   count-row ReadBinary p = inl refl
@@ -189,15 +199,15 @@ module _ (c : Card) (k : Command) (random : List ℕ) where
   count-row GetChallenge p = inl refl
   count-row Unlisted p = inl refl
 
-  counts : (i : Ins) → Counts i (outcome i c k random)
-  counts i = ruled-by (Counts i) i c k random (count-row i) (λ sw. inl refl)
+  counts : (i : Ins) → Counts i (outcome i c l k random)
+  counts i = ruled-by (Counts i) i c l k random (count-row i) (λ sw. inl refl)
 
 step-counts : (c : Card) (area cmd random : List ℕ)
     → (step c area cmd random .card .directory .count ≡ c .directory .count)
     ⊎ ((listed (framed cmd) ≡ CreateFile) × (marked (c .session .rights .device) ≡ true)
     × (step c area cmd random .card .directory .count ≡ c .directory .count + 1))
 unfolding step settled
-step-counts c area cmd random = counts c (framed cmd) random (listed (framed cmd))
+step-counts c area cmd random = counts c (addressed (listed (framed cmd)) c area (framed cmd)) (framed cmd) random (listed (framed cmd))
 
 pub files-created : Created
 files-created o area es h e = go e (after-live o area es h) (follows o area es h)

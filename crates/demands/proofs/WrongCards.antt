@@ -1,6 +1,5 @@
 -- The wrong cards answer a command of a card in use otherwise than the rules, by computation.
-use Prim.Native.Nat.{ℕ, _+_}
-use mathlib.Core.Bool.{Bool, true, false}
+use Prim.Native.Nat.{ℕ}
 use mathlib.Core.List.{List, [], _∷_}
 use mathlib.Core.Path.{_≡_, refl, sym, ap, _∙_}
 use native.Mathlib.Omega.{arith}
@@ -11,21 +10,21 @@ use Rattle.files.specs.Rights.{soundRights}
 use Rattle.files.specs.Directory.{used, startAt}
 use Rattle.files.specs.Record.{soundHeld}
 use Rattle.files.specs.Create.{areaSize}
-use Rattle.files.specs.Sound.{soundFile, unusedPlace, sfisDiffer, soundDirectory}
+use Rattle.files.specs.Sound.{soundFile, unusedPlace, sfisDiffer, soundDirectory, partedArea}
 use Rattle.rules.specs.declared.Card.{Card}
 use Rattle.rules.specs.Words.{orElse, allOf, same, byte}
-use Rattle.rules.specs.State.{Which, device, admin, user, Login, login}
-use Rattle.rules.specs.Sound.{goodPin, soundPin, soundLogin, soundChallenge, sound}
+use Rattle.rules.specs.State.{device, admin, user, Login, login}
+use Rattle.rules.specs.Sound.{goodPin, soundPin, soundLogin, soundChallenge, soundState, sound}
 use Rattle.rules.specs.Frame.{caseOf, framed}
 use Rattle.rules.specs.List.{rows, find, listed}
 use Rattle.rules.specs.Pins.{compared, verifyChecks}
 use Rattle.rules.specs.Device.{getChallengeChecks}
 use Rattle.rules.specs.Step.{checks, effectOf, outcome, settled, step}
 use Rattle.rules.specs.Calls.{Done, Order, replySize, command, goodOrder, issue}
-use Rattle.demands.specs.Ledger.{Event, sent, Page, page, ledger}
-use Rattle.demands.specs.Run.{World, run, after}
+use Rattle.demands.specs.Ledger.{Event, sent, Page}
+use Rattle.demands.specs.Run.{run, after}
 use Rattle.demands.specs.Follows.{Agrees}
-use Rattle.demands.specs.WrongCards.{Meets, Fails, refusesAll, onlySays, neverAlters, obeysOnce, FailsNotMeets, RefusesAll, OnlySays, NeverAlters, ObeysOnce, RulesMeet, madeUp, MadeUpBreaks}
+use Rattle.demands.specs.WrongCards.{Fails, refusesAll, onlySays, neverAlters, obeysOnce, FailsNotMeets, RefusesAll, OnlySays, NeverAlters, ObeysOnce, RulesMeet, MadeUpBreaks}
 use Rattle.demands.proofs.Bound.{credentials-follow}
 
 pub fails-not-meets : FailsNotMeets
@@ -75,12 +74,12 @@ fails-at box before cmd see x y p q n = record {
 
 -- a challenge has data
 challenge-length : answered [] get-challenge .answer .n ≡ 6
-unfolding after run issue goodOrder goodPin allOf order get-challenge command sound soundPin soundLogin soundChallenge soundRights soundDirectory soundFile unusedPlace sfisDiffer soundHeld goodShape count recordLength size used startAt allBelow over part splice orElse caseOf framed rows find listed checks effectOf outcome settled step getChallengeChecks
+unfolding after run issue goodOrder goodPin allOf order get-challenge command sound soundState partedArea soundPin soundLogin soundChallenge soundRights soundDirectory soundFile unusedPlace sfisDiffer soundHeld goodShape count recordLength size used startAt allBelow over part splice orElse caseOf framed rows find listed checks effectOf outcome settled step getChallengeChecks
 challenge-length = refl
 
 -- a wrong PIN costs a try, and is answered 63 and a count
 tries-after : login user (answered [] wrong-pin .answer .card) .tries .left ≡ 2
-unfolding after run issue goodOrder goodPin allOf same order wrong-pin command sound soundPin soundLogin soundChallenge soundRights soundDirectory soundFile unusedPlace sfisDiffer soundHeld goodShape count recordLength size used startAt allBelow over part splice orElse caseOf framed rows find listed checks effectOf outcome settled step verifyChecks compared
+unfolding after run issue goodOrder goodPin allOf same order wrong-pin command sound soundState partedArea soundPin soundLogin soundChallenge soundRights soundDirectory soundFile unusedPlace sfisDiffer soundHeld goodShape count recordLength size used startAt allBelow over part splice orElse caseOf framed rows find listed checks effectOf outcome settled step verifyChecks compared
 tries-after = refl
 
 tries-before : login user (after order (zeros areaSize) [] .card) .tries .left ≡ 3
@@ -92,7 +91,7 @@ once : List Event
 once = sent get-challenge (zeros 16) (zeros replySize) ∷ []
 
 second-answer : byte (answered once wrong-pin .reply) 0 ≡ 0x63
-unfolding once after run issue goodOrder goodPin allOf same order wrong-pin get-challenge command sound soundPin soundLogin soundChallenge soundRights soundDirectory soundFile unusedPlace sfisDiffer soundHeld goodShape count recordLength size used startAt allBelow over part splice orElse caseOf framed rows find listed checks effectOf outcome settled step verifyChecks compared getChallengeChecks
+unfolding once after run issue goodOrder goodPin allOf same order wrong-pin get-challenge command sound soundState partedArea soundPin soundLogin soundChallenge soundRights soundDirectory soundFile unusedPlace sfisDiffer soundHeld goodShape count recordLength size used startAt allBelow over part splice orElse caseOf framed rows find listed checks effectOf outcome settled step verifyChecks compared getChallengeChecks
 second-answer = refl
 
 pub refuses-all : RefusesAll

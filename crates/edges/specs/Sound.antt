@@ -1,4 +1,5 @@
--- "A state is sound when all this holds": cards with one thing wrong, each refused with 4, beside cards at the edge that are served.
+-- "A state is sound when all this holds": cards with one thing wrong, beside cards at the edge that are sound. That commands and resets refuse what is
+-- not sound with 4, rows of `Calls` and `Variable` show.
 use Prim.Native.Nat.{ℕ}
 use mathlib.Core.Bool.{true, false}
 use mathlib.Core.List.{List, [], _∷_, _++_}
@@ -11,18 +12,25 @@ use Rattle.rules.specs.declared.Pin.{Pin}
 use Rattle.rules.specs.declared.Card.{Card}
 use Rattle.rules.specs.Tries.{full}
 use Rattle.rules.specs.State.{Which, device, admin, user, withKey, withAdmin, withUser, withDirectory, withSession, withRights, withLogin, keyOf}
-use Rattle.edges.specs.Table.{hex, random, again, unreset, Edge, called}
+use Rattle.edges.specs.Table.{hex, random, Edge, stated}
 use Rattle.edges.specs.Cards.{holder, filed, add, cabinet}
 use Rattle.edges.specs.Create.{fifteen}
 
--- a reset is refused with 4, or it is served. A command asks the same, as rows of `Calls` show
+-- each with an area of 00 of so many bytes
+abbrev pub bad-in : ℕ → List Card → List Edge
+bad-in n [] = []
+bad-in n (c ∷ cs) = stated c (zeros n) false ∷ bad-in n cs
+
+abbrev pub good-in : ℕ → List Card → List Edge
+good-in n [] = []
+good-in n (c ∷ cs) = stated c (zeros n) true ∷ good-in n cs
+
+-- the cabinet's files, and any others, lie in the area
 abbrev pub bad : List Card → List Edge
-bad [] = []
-bad (c ∷ cs) = called 258 c [] (unreset ∷ []) ∷ bad cs
+bad = bad-in 340
 
 abbrev pub good : List Card → List Edge
-good [] = []
-good (c ∷ cs) = called 258 c [] (again ∷ []) ∷ good cs
+good = good-in 340
 
 abbrev pub plain : Card
 plain = filed false false false
@@ -150,8 +158,9 @@ good-files =
     ∷ places (oneMore fifteen (newFile 0x10 0x10 0x28 0 1 0x00 0x00) .files) 16
     ∷ []
 
+-- an area of one byte more tells files that end past 4,096 from files that end past their area
 abbrev pub directories : List Edge
-directories = bad bad-files ++ bad bad-places ++ good good-files
+directories = bad-in 4097 bad-files ++ bad bad-places ++ good-in 4096 good-files
 
 -- a session with this current file and challenge
 abbrev pub session : ℕ → List ℕ → ℕ → Card

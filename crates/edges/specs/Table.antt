@@ -42,6 +42,8 @@ pub data Line : Type 0 where
   unserved : ℕ → ℕ → ℕ → ℕ → Line
   -- a reset that is not served, since the state is not sound: 4, given state
   unreset : Line
+  -- a reset that is lent another area and is not served, with its number
+  lent : List ℕ → ℕ → Line
   -- what card and area then hold, in numbers
   holding : (Card → List ℕ → List ℕ) → List ℕ → Line
 
@@ -54,6 +56,10 @@ pub data Edge : Type 0 where
   called : ℕ → Card → List ℕ → List Line → Edge
   -- a sound card and an area, and commands: what a call does once it is known to be served. The card is sound afterwards too
   given : Card → List ℕ → List Line → Edge
+  -- a card and an area that are sound together, or not
+  stated : Card → List ℕ → Bool → Edge
+  -- a whole range: what holds of each number below an end
+  swept : ℕ → (ℕ → Bool) → Edge
 
 abbrev pub flag : Bool → ℕ
 flag b = cond b 1 0
@@ -66,7 +72,7 @@ abbrev pub pinNumbers : Pin → List ℕ
 pinNumbers p = p .digits ++ (p .len ∷ triesNumbers (p .tries))
 
 abbrev pub fileNumbers : File → List ℕ
-fileNumbers f = f .fid1 ∷ f .fid2 ∷ f .kind ∷ f .size1 ∷ f .size2 ∷ f .read ∷ f .write ∷ f .held ∷ f .newest ∷ []
+fileNumbers f = f .fid1 ∷ f .fid2 ∷ f .kind ∷ f .size1 ∷ f .size2 ∷ f .read ∷ f .write ∷ f .held ∷ f .newest ∷ f .used1 ∷ f .used2 ∷ []
 
 abbrev pub filesNumbers : List File → List ℕ
 filesNumbers [] = []
@@ -120,24 +126,32 @@ abbrev pub obeys : (Card → List ℕ → List ℕ → List ℕ → Seen) → Ca
 obeys send c area [] = true
 obeys send c area (sent cmd bytes sw ∷ ls) =
     let d = send c area cmd (bytes ++ swOf sw) in d .good && obeys send (d .card) (d .area) ls
-obeys send c area (again ∷ ls) = let a = reset c in eqb (a .outcome) 0 && (eqb (a .n) 0 && obeys send (a .card) area ls)
+obeys send c area (again ∷ ls) = let a = reset c area in eqb (a .outcome) 0 && (eqb (a .n) 0 && obeys send (a .card) area ls)
 obeys send c area (unserved reply size fresh outcome ∷ ls) =
     refuses (command c (filler size) (hex 0x1_0020_0001) (filler fresh) (filler reply)) outcome c (filler size) (filler reply) && obeys send c area ls
 obeys send c area (unreset ∷ ls) =
-    let a = reset c in eqb (a .outcome) 4 && (eqb (a .n) 0 && (equal (numbers (a .card)) (numbers c) && obeys send c area ls))
+    let a = reset c area in eqb (a .outcome) 4 && (eqb (a .n) 0 && (equal (numbers (a .card)) (numbers c) && obeys send c area ls))
+obeys send c area (lent other outcome ∷ ls) =
+    let a = reset c other in eqb (a .outcome) outcome && (eqb (a .n) 0 && (equal (numbers (a .card)) (numbers c) && obeys send c area ls))
 obeys send c area (holding see expected ∷ ls) = equal (see c area) expected && obeys send c area ls
 
 -- a blank state, all zero; the area unwritten
 abbrev pub leftBlank : Issued → ℕ → List ℕ → Bool
 leftBlank d outcome area =
-    eqb (d .answer .outcome) outcome && (eqb (d .answer .n) 0 && (equal (numbers (d .answer .card)) (replicate 222 0) && equal (d .area) area))
+    eqb (d .answer .outcome) outcome && (eqb (d .answer .n) 0 && (equal (numbers (d .answer .card)) (replicate 254 0) && equal (d .area) area))
+
+abbrev pub sweep : ℕ → (ℕ → Bool) → Bool
+sweep zero p = true
+sweep (suc n) p = p n && sweep n p
 
 abbrev pub holds : Edge → Bool
 holds (issued o ls) =
     let d = issue o (filler 4096) in eqb (d .answer .outcome) 0 && (eqb (d .answer .n) 0 && obeys (call 258) (d .answer .card) (d .area) ls)
 holds (unissued o size outcome) = leftBlank (issue o (filler size)) outcome (filler size)
 holds (called n c area ls) = obeys (call n) c area ls
-holds (given c area ls) = sound c && obeys serve c area (ls ++ (holding (λ d bytes. flag (sound d) ∷ []) (1 ∷ []) ∷ []))
+holds (given c area ls) = sound c area && obeys serve c area (ls ++ (holding (λ d bytes. flag (sound d bytes) ∷ []) (1 ∷ []) ∷ []))
+holds (stated c area good) = eqb (flag (sound c area)) (flag good)
+holds (swept n p) = sweep n p
 
 abbrev pub allHold : List Edge → Bool
 allHold [] = true

@@ -1,11 +1,11 @@
 -- The laws of `part` and `splice`: what is read after a store, what a store leaves, and parts of parts.
 use mathlib.Core.Path.{_≡_, refl, sym, ap, _∙_}
-use mathlib.Core.List.{List, _++_, append-assoc, append-nil}
+use mathlib.Core.List.{List, _∷_, _++_, append-assoc, append-nil}
 use Prim.Native.Nat.{ℕ, suc, _+_, _-_, _≤_, _<_}
 use native.Mathlib.Nat.{add-assoc, zero-add}
 use native.Mathlib.Omega.{arith}
-use lib.ListN.{length, take, drop, replicate, length-append, length-take, length-drop, drop-of-length-le, take-append-drop}
-use lib.Seq.{paste, take-length, take-all, take-at, drop-at, take-append-le, drop-append-le, take-append-add, drop-append-add, drop-drop, take-take, take-add, length-take-le, drop-length}
+use lib.ListN.{length, take, drop, getD, set, replicate, length-append, length-take, length-drop, take-append-drop}
+use lib.Seq.{getD-at, append-snoc, take-suc-set, drop-set-lt, getD-take, getD-drop, paste, take-length, take-at, drop-at, take-append-le, drop-append-le, take-append-add, drop-append-add, drop-drop, length-take-le, drop-length}
 use mathlib.Core.Logic.{_⊎_, inl, inr, ⊎-elim}
 use Rattle.files.specs.Part.{part, splice, over, zeros}
 
@@ -71,6 +71,14 @@ module _ (xs : List ℕ) (a : ℕ) (ys : List ℕ) (fits : a + length ys ≤ len
   part-splice-behind b n h =
       let e : b ≡ a + length ys + (b - (a + length ys)) = omega arith in
       rw e (part-splice-plus (b - (a + length ys)) n)
+
+-- a byte set and a store behind it are one store
+pub splice-cons : (xs : List ℕ) (a v : ℕ) (ys : List ℕ) → a < length xs → splice (set xs a v) (a + 1) ys ≡ splice xs a (v ∷ ys)
+unfolding splice
+splice-cons xs a v ys h =
+    let n : a + 1 ≡ suc a = omega arith in
+    let m : suc a + length ys ≡ a + suc (length ys) = omega arith in
+    rw (n, take-suc-set xs a v h, drop-set-lt (suc a + length ys) xs a v (omega arith), m) (append-snoc (take a xs) v (ys ++ drop (a + suc (length ys)) xs))
 
 -- a store that stays in the first of two lists, or in the second
 pub splice-front : (p r ys : List ℕ) (b : ℕ) → b + length ys ≤ length p → splice (p ++ r) b ys ≡ splice p b ys ++ r
@@ -148,6 +156,23 @@ Apart a m b n = (a + m ≤ b) ⊎ (b + n ≤ a)
 pub part-apart : (xs : List ℕ) (a : ℕ) (ys : List ℕ) (b m : ℕ) → a + length ys ≤ length xs → Apart b m a (length ys)
     → part b m (splice xs a ys) ≡ part b m xs
 part-apart xs a ys b m f d = ⊎-elim (λ l. part-splice-before xs a ys f b m l) (λ l. part-splice-behind xs a ys f b m l) d
+
+-- a byte that is no part of a store
+pub byte-of-part : (xs : List ℕ) (a : ℕ) → getD xs a 0 ≡ getD (part a 1 xs) 0 0
+unfolding part
+byte-of-part xs a = let e : a + 0 ≡ a = omega arith in sym (getD-take 1 (drop a xs) 0 0 (omega arith) ∙ getD-drop a xs 0 0 ∙ rw e)
+
+pub byte-apart : (xs : List ℕ) (a : ℕ) (ys : List ℕ) (b : ℕ) → a + length ys ≤ length xs → (b < a) ⊎ (a + length ys ≤ b)
+    → getD (splice xs a ys) b 0 ≡ getD xs b 0
+byte-apart xs a ys b f d =
+    byte-of-part (splice xs a ys) b
+    ∙ ap (λ l. getD l 0 0) (part-apart xs a ys b 1 f (⊎-elim (λ l. inl (omega arith)) (λ l. inr l) d))
+    ∙ sym (byte-of-part xs b)
+
+-- the first byte of a store
+pub byte-stored : (xs : List ℕ) (a v : ℕ) (ys : List ℕ) → a < length xs → getD (splice xs a (v ∷ ys)) a 0 ≡ v
+unfolding splice
+byte-stored xs a v ys h = getD-at (take a xs) v (ys ++ drop (a + suc (length ys)) xs) 0 a (length-take-le a xs (omega arith))
 
 -- 00 over all of a list
 pub filled-all : (xs : List ℕ) → replicate (length xs) 0 ++ drop (length xs) xs ≡ zeros (length xs)

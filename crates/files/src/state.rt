@@ -1,12 +1,13 @@
 // A value of a struct of this crate is made here and nowhere else.
 ghost use mathlib.Core.Path.{_≡_};
-ghost use Prim.Native.Nat.{_<_};
-ghost use Rattle.files.specs.State.{mark, rightsOf, blankFile, newFile, withNewest, noFiles, withFile, oneMore, anExtent, fileAnswer, directoryAnswer};
+ghost use Prim.Native.Nat.{_≤_, _<_};
+ghost use Rattle.files.specs.State.{mark, rightsOf, blankFile, newFile, withNewest, withUsed, emptied, locatedAt, nowhere, noFiles, withFile, oneMore, anExtent, fileAnswer, directoryAnswer};
 use crate::Directory;
 use crate::DirectoryAnswer;
 use crate::Extent;
 use crate::File;
 use crate::FileAnswer;
+use crate::Located;
 use crate::Rights;
 
 // A right as it is kept.
@@ -41,6 +42,8 @@ pub fn new_file(fid1: u8, fid2: u8, kind: u8, size1: u8, size2: u8, read: u8, wr
         write,
         held: 0,
         newest: 0,
+        used1: 0,
+        used2: 0,
     }
 }
 
@@ -59,6 +62,46 @@ pub fn with_newest(f: File, held: u8, newest: u8) -> File
     g.held = held;
     g.newest = newest;
     g
+}
+
+// The file with another number of used bytes.
+pub(crate) fn with_used(f: File, used: usize) -> File
+    requires { ⌜ used ≤ 65535 ⌝ }
+    ensures { λ r. ⌜ r ≡ withUsed f used ⌝ }
+{
+    let mut g = f;
+    g.used1 = (used / 256) as u8;
+    g.used2 = (used % 256) as u8;
+    g
+}
+
+// The file with no record held and no byte used.
+pub(crate) fn emptied(f: File) -> File
+    ensures { λ r. ⌜ r ≡ emptied f ⌝ }
+{
+    with_used(with_newest(f, 0, 0), 0)
+}
+
+// A record that is there.
+pub(crate) fn located_at(start: usize, length: u8) -> Located
+    ensures { λ r. ⌜ r ≡ locatedAt start length ⌝ }
+{
+    Located {
+        there: true,
+        start,
+        length,
+    }
+}
+
+// No such record.
+pub fn nowhere() -> Located
+    ensures { λ r. ⌜ r ≡ nowhere ⌝ }
+{
+    Located {
+        there: false,
+        start: 0,
+        length: 0,
+    }
 }
 
 // The directory of a new card.

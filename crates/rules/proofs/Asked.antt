@@ -6,11 +6,12 @@ use mathlib.Core.Path.{_≡_, refl}
 use lib.Dec.{eqb, leb, ltb}
 use borrow.Author.Tests.{not-true}
 use Rattle.files.specs.declared.File.{File}
+use Rattle.files.specs.declared.Located.{Located}
 use Rattle.files.specs.Words.{isZero}
-use Rattle.files.specs.Types.{binary, cyclic, hasRecords, recordLength, size}
+use Rattle.files.specs.Types.{binary, hasRecords, size}
 use Rattle.files.specs.Directory.{sfi, goodSfi, end}
 use Rattle.files.specs.Binary.{inBinary}
-use Rattle.files.specs.Record.{recordsHeld, soundHeld, inRecords, updatesRecord, appendsRecord}
+use Rattle.files.specs.Record.{soundHeld, soundUsed, grows, isRecord, hasRoom, appendsRecord}
 use Rattle.files.specs.Create.{goodContents, sfiUnused, room, creates}
 use Rattle.files.proofs.Checks.{each, all, both, join}
 use Rattle.rules.specs.declared.Card.{Card}
@@ -18,7 +19,7 @@ use Rattle.rules.specs.Words.{allOf}
 use Rattle.rules.specs.Sound.{digit, goodLength, goodPin, goodChallenge}
 use Rattle.rules.specs.Frame.{Command, p, lc}
 use Rattle.rules.specs.Binary.{fileOf, fileSw, binaryChecks}
-use Rattle.rules.specs.Record.{goodP2, recordTarget, recordPSw, recordChecks, recordLcSw, readRecordChecks, updateRecordChecks, appendChecks}
+use Rattle.rules.specs.Record.{recordTarget, recordChecks, recordLcSw, readRecordChecks, updateRecordChecks, appendChecks}
 use Rattle.rules.specs.Pins.{pinGiven, digitsSw}
 use Rattle.rules.specs.Device.{getChallengeChecks}
 use Rattle.rules.specs.Create.{fileGiven, createChecks}
@@ -29,13 +30,9 @@ use Rattle.rules.proofs.Targets.{not-zero}
 pub some-file : (place : ℕ) → fileSw place ≡ 0x9000 → 1 ≤ place
 some-file place h = not-zero place (not-true (isZero place) (holds (not (isZero place)) 0x6A82 refl h))
 
--- record numbers count from 1
-pub some-number : (k : Command) → recordPSw k ≡ 0x9000 → leb 1 (k .p1) ≡ true
-some-number k h = both (leb 1 (k .p1)) (goodP2 4 k) (holds (leb 1 (k .p1) && goodP2 4 k) 0x6A86 refl h) .0
-
 -- as many bytes as a record has
-given-whole : (f : File) (k : Command) → recordLcSw f k ≡ 0x9000 → eqb (lc k) (recordLength f) ≡ true
-given-whole f k h = holds (eqb (lc k) (recordLength f)) 0x6700 refl h
+given-whole : (l : Located) (k : Command) → recordLcSw l k ≡ 0x9000 → eqb (lc k) (l .length) ≡ true
+given-whole l k h = holds (eqb (lc k) (l .length)) 0x6700 refl h
 
 given-sfi : (k : Command) → sfi (fileGiven k) ≡ p k % 32
 unfolding fileGiven
@@ -48,32 +45,30 @@ module _ (c : Card) where
       all (eqb (fileOf c place .kind) binary ∷ ltb from (size (fileOf c place)) ∷ leb (from + n) (size (fileOf c place)) ∷ [])
       (holds _ 0x6981 refl (h .1 .0), (holds _ 0x6A84 refl (h .1 .1 .1 .0), holds _ 0x6700 refl (h .1 .1 .1 .1 .0)))
 
-  pub record-asked : (place right n last : ℕ) → soundHeld (fileOf c place) ≡ true → leb 1 n ≡ true → Passed (recordChecks c place right n last)
-      → inRecords (fileOf c place) n ≡ true
-  unfolding inRecords
-  record-asked place right n last s l h =
-      all (hasRecords (fileOf c place) ∷ soundHeld (fileOf c place) ∷ leb 1 n ∷ leb n (recordsHeld (fileOf c place)) ∷ [])
-      (holds (hasRecords (fileOf c place)) 0x6981 refl (h .1 .0), (s, (l, holds _ 0x6A83 refl (h .1 .1 .1 .0))))
+  -- a type with records, and the record
+  record-asked : (place right : ℕ) (l : Located) (last : ℕ) → Passed (recordChecks c place right l last)
+      → (hasRecords (fileOf c place) ≡ true) × (l .there ≡ true)
+  record-asked place right l last h =
+      (holds (hasRecords (fileOf c place)) 0x6981 refl (h .1 .0), holds (l .there) 0x6A83 refl (h .1 .1 .1 .0))
 
-  pub read-asked : (k : Command) → soundHeld (fileOf c (recordTarget c k)) ≡ true → Passed (readRecordChecks c k)
-      → inRecords (fileOf c (recordTarget c k)) (k .p1) ≡ true
-  unfolding readRecordChecks
-  read-asked k s h = record-asked (recordTarget c k) (fileOf c (recordTarget c k) .read) (k .p1) _ s (some-number k (h .0)) (h .1 .1)
+  module _ (k : Command) where
+    pub read-asked : (l : Located) → Passed (readRecordChecks c l k) → (hasRecords (fileOf c (recordTarget c k)) ≡ true) × (l .there ≡ true)
+    unfolding readRecordChecks
+    read-asked l h = record-asked (recordTarget c k) (fileOf c (recordTarget c k) .read) l _ (h .1 .1)
 
-  pub update-asked : (k : Command) → soundHeld (fileOf c (recordTarget c k)) ≡ true → Passed (updateRecordChecks c k)
-      → updatesRecord (fileOf c (recordTarget c k)) (k .p1) (lc k) ≡ true
-  unfolding updatesRecord updateRecordChecks
-  update-asked k s h =
-      join (record-asked (recordTarget c k) (fileOf c (recordTarget c k) .write) (k .p1) _ s (some-number k (h .0)) (h .1 .1))
-      (given-whole (fileOf c (recordTarget c k)) k (h .1 .1 .1 .1 .1 .1 .0))
+    pub update-asked : (l : Located) → Passed (updateRecordChecks c l k)
+        → ((hasRecords (fileOf c (recordTarget c k)) ≡ true) × (l .there ≡ true)) × (eqb (lc k) (l .length) ≡ true)
+    unfolding updateRecordChecks
+    update-asked l h =
+        (record-asked (recordTarget c k) (fileOf c (recordTarget c k) .write) l _ (h .1 .1), given-whole l k (h .1 .1 .1 .1 .1 .1 .0))
 
-  pub append-asked : (k : Command) → soundHeld (fileOf c (recordTarget c k)) ≡ true → Passed (appendChecks c k)
-      → appendsRecord (fileOf c (recordTarget c k)) (lc k) ≡ true
-  unfolding appendsRecord appendChecks
-  append-asked k s h =
-      all (eqb (fileOf c (recordTarget c k) .kind) cyclic ∷ soundHeld (fileOf c (recordTarget c k))
-      ∷ eqb (lc k) (recordLength (fileOf c (recordTarget c k))) ∷ [])
-      (holds _ 0x6981 refl (h .1 .1 .1 .0), (s, given-whole (fileOf c (recordTarget c k)) k (h .1 .1 .1 .1 .1 .0)))
+  module _ (k : Command) (s : soundHeld (fileOf c (recordTarget c k)) ≡ true) (u : soundUsed (fileOf c (recordTarget c k)) ≡ true) where
+    pub append-asked : Passed (appendChecks c k) → appendsRecord (fileOf c (recordTarget c k)) (lc k) ≡ true
+    unfolding appendsRecord appendChecks
+    append-asked h =
+        let f = fileOf c (recordTarget c k) in
+        all (grows f ∷ soundHeld f ∷ soundUsed f ∷ isRecord f (lc k) ∷ hasRoom f (lc k) ∷ [])
+        (holds _ 0x6981 refl (h .1 .1 .1 .0), (s, (u, (holds _ 0x6700 refl (h .1 .1 .1 .1 .1 .0), holds _ 0x6A84 refl (h .1 .1 .1 .1 .1 .1 .0)))))
 
   room-area : (f : File) → room (c .directory) f ≡ true → leb (end (c .directory) + size f) 4096 ≡ true
   unfolding room

@@ -13,11 +13,11 @@ use Rattle.files.specs.declared.Rights.{Rights}
 use Rattle.files.specs.declared.Directory.{Directory}
 use Rattle.files.specs.Words.{isZero}
 use Rattle.files.specs.Part.{over, zeros}
-use Rattle.files.specs.State.{mark, rightsOf}
+use Rattle.files.specs.State.{mark}
 use Rattle.files.specs.Rights.{marked, soundRights}
-use Rattle.files.specs.Sound.{soundDirectory}
+use Rattle.files.specs.Sound.{soundDirectory, partedArea}
 use Rattle.files.proofs.Checks.{Every, each, all, both}
-use Rattle.files.proofs.Kept.{sound-none}
+use Rattle.files.proofs.Kept.{PartedIn, parted-in, is-parted-in, sound-none}
 use Rattle.rules.specs.declared.Tries.{Tries}
 use Rattle.rules.specs.declared.Pin.{Pin}
 use Rattle.rules.specs.declared.Key.{Key}
@@ -25,7 +25,7 @@ use Rattle.rules.specs.declared.Card.{Card}
 use Rattle.rules.specs.Words.{allOf, filled}
 use Rattle.rules.specs.Tries.{goodLimit, full, lowered}
 use Rattle.rules.specs.State.{Which, device, admin, user, Login, logins, login, pinOf, newCard, withSession, noSession, withCurrent, withChallenge, withDirectory, withKey, withAdmin, withUser, withRights, withLogin, withValue}
-use Rattle.rules.specs.Sound.{digit, goodLength, goodPin, soundPin, soundLogin, goodChallenge, soundChallenge, sound}
+use Rattle.rules.specs.Sound.{digit, goodLength, goodPin, soundPin, soundLogin, goodChallenge, soundChallenge, soundState, sound}
 use Rattle.rules.specs.Pins.{whichOf}
 use Rattle.rules.proofs.Checks.{one-of, either}
 
@@ -77,8 +77,8 @@ soundList c =
     ∷ soundChallenge (c .session)
     ∷ []
 
-pub good : (c : Card) → sound c ≡ true → Good c
-unfolding sound
+pub good : (c : Card) → soundState c ≡ true → Good c
+unfolding soundState
 good c h =
     let e = each (soundList c) h in
     let t = e .1 .1 .1 in
@@ -93,14 +93,27 @@ good c h =
       challenge = f .1 .1 .1;
     }
 
-pub is-sound : (c : Card) → Good c → sound c ≡ true
-unfolding sound
+pub is-sound : (c : Card) → Good c → soundState c ≡ true
+unfolding soundState
 is-sound c g =
     let d = is-tried (logins c .device) (g .device .tries) in
     let a = is-tried (logins c .admin) (g .admin .tries) in
     let u = is-tried (logins c .user) (g .user .tries) in
     let k = eq-eqb _ _ (g .device .bytes) in
     all (soundList c) (k, (g .admin .pin, (g .user .pin, (d, (a, (u, (g .directory, (g .rights, (le-leb _ _ (g .current), g .challenge)))))))))
+
+-- a sound card with its area: the state, and the files parted
+pub sound-good : (c : Card) (area : List ℕ) → sound c area ≡ true → Good c
+unfolding sound
+sound-good c area h = good c (each (soundState c ∷ partedArea (c .directory) area ∷ []) h .0)
+
+pub sound-parted : (c : Card) (area : List ℕ) → sound c area ≡ true → PartedIn (c .directory) area
+unfolding sound
+sound-parted c area h = parted-in (c .directory) area (each (soundState c ∷ partedArea (c .directory) area ∷ []) h .1)
+
+pub sound-both : (c : Card) (area : List ℕ) → Good c → PartedIn (c .directory) area → sound c area ≡ true
+unfolding sound
+sound-both c area g p = all (soundState c ∷ partedArea (c .directory) area ∷ []) (is-sound c g, is-parted-in (c .directory) area p)
 
 -- all tries left, with or without the right; one try less, and a right dropped
 pub tried-full : (n : ℕ) (held : Bool) → goodLimit n ≡ true → Tried (full n) held

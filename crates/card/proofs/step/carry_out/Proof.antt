@@ -8,7 +8,7 @@ use Rattle.rules.specs.Record.{readRecordChecks}
 use Rattle.rules.specs.Binary.{readBinaryChecks}
 use Rattle.rules.specs.Pins.{verifyEffect}
 use Rattle.rules.specs.State.{logins}
-use Rattle.rules.specs.Step.{checks, effectOf}
+use Rattle.rules.specs.Step.{addressed, checks, effectOf}
 use Rattle.rules.specs.declared.Card.{Card}
 use mathlib.Core.Path.{ap, _∙_, refl}
 use denote.Ref.{now}
@@ -33,7 +33,7 @@ unfolding checks readBinaryChecks
 read-binary-requires c κs =
     let s = c .before .before .before .before .before .before .before .before in
     let told = c .before .before .enum-told2 .given .1 in
-    let checked = rw told at (s .pre .1 .1) in
+    let checked = rw told at (s .pre .1 .1 .1) in
     (s .pre .0, ((s .pre .1 .0 .0, s .pre .1 .0 .2), checked))
 
 enum-told-3 : tie.Need-enum-told-3
@@ -44,14 +44,14 @@ unfolding checks
 update-binary-requires c κs =
     let s = c .before .before .before .before .before .before .before in
     let told = c .before .enum-told3 .given .1 in
-    let checked = rw told at (s .pre .1 .1) in
+    let checked = rw told at (s .pre .1 .1 .1) in
     (s .pre .0, checked)
 
 enum-told-4 : tie.Need-enum-told-4
 enum-told-4 c = c .match .keys4
 
 read-record-requires : tie.Need-read-record-requires
-unfolding checks readRecordChecks
+unfolding addressed checks readRecordChecks
 read-record-requires c κs =
     let s = c .before .before .before .before .before .before .before .before in
     let told = c .before .before .enum-told4 .given .1 in
@@ -62,7 +62,7 @@ enum-told-5 : tie.Need-enum-told-5
 enum-told-5 c = c .match .keys5
 
 update-record-requires : tie.Need-update-record-requires
-unfolding checks
+unfolding addressed checks
 update-record-requires c κs =
     let s = c .before .before .before .before .before .before .before in
     let told = c .before .enum-told5 .given .1 in
@@ -77,7 +77,7 @@ unfolding checks
 append-record-requires c κs =
     let s = c .before .before .before .before .before .before .before in
     let told = c .before .enum-told6 .given .1 in
-    let checked = rw told at (s .pre .1 .1) in
+    let checked = rw told at (s .pre .1 .1 .1) in
     (s .pre .0, checked)
 
 enum-told-7 : tie.Need-enum-told-7
@@ -100,7 +100,7 @@ unfolding checks
 change-requires c κs =
     let s = c .before .before .before .before .before .before in
     let told = c .enum-told9 .given .1 in
-    let checked = rw told at (s .pre .1 .1) in
+    let checked = rw told at (s .pre .1 .1 .1) in
     change-few (logins (s .args .card)) (commandOf (s .args .h) (now (s .args .given))) checked
 
 quietly-requires-2 : tie.Need-quietly-requires-2
@@ -114,7 +114,7 @@ unfolding checks
 reload-requires c κs =
     let s = c .before .before .before .before .before .before in
     let told = c .enum-told10 .given .1 in
-    let checked = rw told at (s .pre .1 .1) in
+    let checked = rw told at (s .pre .1 .1 .1) in
     reload-few (logins (s .args .card)) (commandOf (s .args .h) (now (s .args .given))) checked
 
 quietly-requires-3 : tie.Need-quietly-requires-3
@@ -128,7 +128,7 @@ unfolding checks
 create-file-requires c κs =
     let s = c .before .before .before .before .before .before .before in
     let told = c .before .enum-told11 .given .1 in
-    let checked = rw told at (s .pre .1 .1) in
+    let checked = rw told at (s .pre .1 .1 .1) in
     (s .pre .0, checked)
 
 enum-told-12 : tie.Need-enum-told-12
@@ -139,7 +139,7 @@ unfolding checks getChallengeChecks
 get-challenge-requires c κs =
     let s = c .before .before .before .before .before .before .before in
     let told = c .before .enum-told12 .given .1 in
-    let checked = rw told at (s .pre .1 .1) in
+    let checked = rw told at (s .pre .1 .1 .1) in
     ((s .pre .1 .0 .1, s .pre .1 .0 .2), checked)
 
 enum-told-13 : tie.Need-enum-told-13

@@ -28,9 +28,15 @@ both-requires-7 c κs = tt
 both-requires-8 : tie.Need-both-requires-8
 both-requires-8 c κs = tt
 
+both-requires-9 : tie.Need-both-requires-9
+both-requires-9 c κs = tt
+
+both-requires-10 : tie.Need-both-requires-10
+both-requires-10 c κs = tt
+
 returns : tie.Need-returns
 unfolding unusedPlace
-returns c = c .both8 .ensures ∙ rw (c .before .both7 .ensures, c .before .before .both6 .ensures, c .before .before .before .before .before .before .both5 .ensures, c .before .before .before .before .before .before .before .both4 .ensures, c .before .before .before .before .before .before .before .before .before .before .both3 .ensures, c .before .before .before .before .before .before .before .before .before .before .before .both2 .ensures, c .before .before .before .before .before .before .before .before .before .before .before .before .before .before .both .ensures)
+returns c = c .both10 .ensures ∙ rw (c .before .both9 .ensures, c .before .before .both8 .ensures, c .before .before .before .before .before .before .both7 .ensures, c .before .before .before .before .before .before .before .both6 .ensures, c .before .before .before .before .before .before .before .before .before .before .both5 .ensures, c .before .before .before .before .before .before .before .before .before .before .before .both4 .ensures, c .before .before .before .before .before .before .before .before .before .before .before .before .before .before .both3 .ensures, c .before .before .before .before .before .before .before .before .before .before .before .before .before .before .before .both2 .ensures, c .before .before .before .before .before .before .before .before .before .before .before .before .before .before .before .before .before .before .both .ensures)
 
 pub unused-place-spec : {M : Type 1} → statement M
 unused-place-spec =
@@ -44,4 +50,6 @@ unused-place-spec =
     both-requires-6
     both-requires-7
     both-requires-8
+    both-requires-9
+    both-requires-10
     returns)

@@ -1,0 +1,295 @@
+/*
+ * How long one call takes in place, on cards with notes (files of type 2C) and
+ * on cards without: one command, again and again on the same card.
+ *
+ * It links with the library of the version before too, which has no type 2C:
+ * a card is taken to be as large as the library says, no card is reset, and
+ * cards that cannot be made are left out.
+ */
+#define _POSIX_C_SOURCE 200809L
+
+#include <stdbool.h>
+#include <stdio.h>
+#include <stdlib.h>
+#include <string.h>
+#include <time.h>
+
+#include "limpetnook.h"
+
+enum { CARD_ROOM = 1024, LONGEST_COMMAND = 300, CALLS = 2000, MOST_RECORDS = LIMPET_AREA_SIZE / 2, AREAS = 64 };
+
+static uint8_t card[CARD_ROOM], kept[CARD_ROOM];
+static uint8_t areas[AREAS][LIMPET_AREA_SIZE];
+static uint8_t *area = areas[0]; /* the one that is lent */
+static uint8_t reply[LIMPET_REPLY_SIZE];
+static size_t reply_count;
+static bool is_once;
+
+static void usage(FILE *to)
+{
+    fputs("usage: notes ROUNDS\n"
+          "       notes --once\n"
+          "\n"
+          "Gives cards in place one command each, 2,000 times in each of ROUNDS rounds (1 to\n"
+          "999), and prints for each how many calls a second the fastest round had.\n"
+          "--once: prints a line for each call of limpet_command, for callgrind to count; the\n"
+          "calls that make a card have the line \"making\".\n", to);
+}
+
+static double now(void)
+{
+    struct timespec t;
+
+    clock_gettime(CLOCK_MONOTONIC, &t);
+    return (double)t.tv_sec + 1e-9 * (double)t.tv_nsec;
+}
+
+struct bytes {
+    uint8_t at[LONGEST_COMMAND];
+    size_t length;
+};
+
+/* Hex digits, blanks between them, and behind them so many bytes of 2A. */
+static struct bytes read_command(const char *digits, size_t more)
+{
+    struct bytes b = { .length = 0 };
+    unsigned byte;
+    int read;
+
+    for (; sscanf(digits, " %2x%n", &byte, &read) == 1; digits += read)
+        b.at[b.length++] = (uint8_t)byte;
+    memset(b.at + b.length, 0x2A, more);
+    b.length += more;
+    return b;
+}
+
+/* The status word, or 0 where the call was not served. */
+static unsigned give(const struct bytes *command)
+{
+    /* FIPS 197 C.1: under the key 00 01 .. 0F this block is enciphered to the cryptogram of log_in. */
+    static const uint8_t random_input[LIMPET_RANDOM_SIZE] = {
+        0x00, 0x11, 0x22, 0x33, 0x44, 0x55, 0x66, 0x77, 0x88, 0x99, 0xAA, 0xBB, 0xCC, 0xDD, 0xEE, 0xFF
+    };
+    uint8_t outcome = limpet_command((struct limpet_card *)card, area, LIMPET_AREA_SIZE, command->at, command->length,
+                                     random_input, sizeof random_input, reply, sizeof reply, &reply_count);
+
+    return outcome == LIMPET_OK ? 256u * reply[reply_count - 2] + reply[reply_count - 1] : 0;
+}
+
+static void stop(const char *what, unsigned word, unsigned due)
+{
+    fprintf(stderr, "notes: %s: status word %04X, and %04X is due\n", what, word, due);
+    exit(EXIT_FAILURE);
+}
+
+static unsigned made(const char *digits, size_t more)
+{
+    struct bytes command = read_command(digits, more);
+
+    if (is_once)
+        puts("making");
+    return give(&command);
+}
+
+static void make(const char *digits, size_t more)
+{
+    unsigned word = made(digits, more);
+
+    if (word != 0x9000)
+        stop(digits, word, 0x9000);
+}
+
+static void issue(void)
+{
+    static const uint8_t key[LIMPET_KEY_SIZE] = { 0, 1, 2, 3, 4, 5, 6, 7, 8, 9, 10, 11, 12, 13, 14, 15 };
+    static const uint8_t pin[] = { '1', '2', '3', '4', '5', '6' };
+
+    if (limpet_issue((struct limpet_card *)card, area, LIMPET_AREA_SIZE, key, sizeof key, 128,
+                     pin, sizeof pin, 5, pin, sizeof pin, 3) != LIMPET_OK) {
+        fprintf(stderr, "notes: a good order is refused\n");
+        exit(EXIT_FAILURE);
+    }
+}
+
+static void log_in(void)
+{
+    issue();
+    make("00 84 0000 10", 0);
+    make("00 82 0000 10 69C4E0D86A7B0430D8CDB78070B4C55A", 0);
+}
+
+/* One command on the card as it is, which is set back before each call: so an append finds room again. That takes a few ns. */
+static void measure_in_turn(int turns, int rounds, const char *on, const char *what, const char *digits, size_t more, unsigned due)
+{
+    struct bytes command = read_command(digits, more);
+    const size_t size = limpet_card_size();
+    double best = 0;
+
+    memcpy(kept, card, size);
+    if (is_once) {
+        printf("%s: %s\n", on, what);
+        rounds = 0;
+    }
+    unsigned word = give(&command);
+    if (word != due)
+        stop(what, word, due);
+    for (int round = 0; round < rounds; round++) {
+        double start = now();
+        for (int i = 0; i < CALLS; i++) {
+            memcpy(card, kept, size);
+            area = areas[i % turns];
+            give(&command);
+        }
+        area = areas[0];
+        double took = (now() - start) / CALLS;
+        if (round == 0 || took < best)
+            best = took;
+    }
+    memcpy(card, kept, size);
+    if (!is_once)
+        printf("%.0f\t%s: %s\n", best > 0 ? 1 / best : 0, on, what);
+}
+
+static void measure(int rounds, const char *on, const char *what, const char *digits, size_t more, unsigned due)
+{
+    measure_in_turn(1, rounds, on, what, digits, more, due);
+}
+
+/* ---------------------------------------------------- cards without notes */
+
+static void without_files(int rounds)
+{
+    issue();
+    measure(rounds, "no files", "query", "00 20 0001", 0, 0x63C3);
+    measure(rounds, "no files", "wrong PIN", "00 20 0001 06 303030303030", 0, 0x63C2);
+}
+
+static void with_sixteen(int rounds)
+{
+    char command[64];
+
+    log_in();
+    for (unsigned sfi = 1; sfi <= 16; sfi++) {
+        snprintf(command, sizeof command, "80 E0 %04X 05 %s 00 00", 0x4000 + sfi, sfi % 2 ? "28 0100" : "2E 4004");
+        make(command, 0);
+    }
+    measure(rounds, "16 files, 28 and 2E", "query", "00 20 0001", 0, 0x63C3);
+    measure(rounds, "16 files, 28 and 2E", "append to the last", "00 E2 0080 04", 4, 0x9000);
+}
+
+static void with_binary(int rounds)
+{
+    log_in();
+    make("80 E0 0101 05 28 1000 00 00", 0);
+    measure(rounds, "a 28 file of 4,096 bytes", "query", "00 20 0001", 0, 0x63C3);
+    measure(rounds, "a 28 file of 4,096 bytes", "read 256 bytes", "00 B0 8100 00", 0, 0x9000);
+    measure(rounds, "a 28 file of 4,096 bytes", "update 255 bytes", "00 D6 8100 FF", 255, 0x9000);
+}
+
+static void with_fixed(int rounds)
+{
+    log_in();
+    make("80 E0 0101 05 2A 8020 00 00", 0);
+    measure(rounds, "a 2A file of 128 records of 32 bytes", "query", "00 20 0001", 0, 0x63C3);
+    measure(rounds, "a 2A file of 128 records of 32 bytes", "read number 1", "00 B2 010C 00", 0, 0x9000);
+    measure(rounds, "a 2A file of 128 records of 32 bytes", "read number 128", "00 B2 800C 00", 0, 0x9000);
+    measure(rounds, "a 2A file of 128 records of 32 bytes", "update number 128", "00 DC 800C 20", 32, 0x9000);
+}
+
+/* ------------------------------------------------------- cards with notes */
+
+static void append(unsigned count, unsigned length)
+{
+    char command[32];
+
+    snprintf(command, sizeof command, "00 E2 0008 %02X", length);
+    for (unsigned i = 0; i < count; i++)
+        make(command, length);
+}
+
+static bool create_notes(void)
+{
+    log_in();
+    return made("80 E0 0101 05 2C 1000 00 00", 0) == 0x9000;
+}
+
+static void with_long_notes(int rounds)
+{
+    static const char name[] = "a 2C file full with 23 records, 22 of 178 bytes";
+
+    create_notes();
+    measure(rounds, "an empty 2C file of 4,096 bytes", "query", "00 20 0001", 0, 0x63C3);
+    append(22, 178);
+    append(1, LIMPET_AREA_SIZE - 22 * 179 - 1);
+    measure(rounds, name, "query", "00 20 0001", 0, 0x63C3);
+    measure(rounds, name, "read number 1", "00 B2 010C 00", 0, 0x9000);
+    measure(rounds, name, "read number 23", "00 B2 170C 00", 0, 0x9000);
+}
+
+static void with_short_notes(int rounds)
+{
+    static const char name[] = "a 2C file full with 2,048 records of one byte";
+
+    create_notes();
+    append(MOST_RECORDS - 1, 1);
+    measure(rounds, "a 2C file with 2,047 records of one byte", "append", "00 E2 0008 01", 1, 0x9000);
+    append(1, 1);
+    measure(rounds, name, "query", "00 20 0001", 0, 0x63C3);
+    measure(rounds, name, "read number 1", "00 B2 010C 00", 0, 0x9000);
+    measure(rounds, name, "read number 255", "00 B2 FF0C 00", 0, 0x9000);
+    measure(rounds, name, "update number 255", "00 DC FF0C 01", 1, 0x9000);
+    measure(rounds, name, "append, refused", "00 E2 0008 01", 1, 0x6A84);
+}
+
+/* Fills an area with records of 1 and 2 bytes, by the highest bit of Marsaglia's xorshift. */
+static void mix(uint8_t *to, uint32_t *state)
+{
+    for (unsigned at = 0, length; at < LIMPET_AREA_SIZE; at += 1 + length) {
+        unsigned left = LIMPET_AREA_SIZE - at;
+        *state ^= *state << 13;
+        *state ^= *state >> 17;
+        *state ^= *state << 5;
+        length = left > 4 ? 1 + (*state >> 31) : left == 3 ? 2 : 1;
+        to[at] = (uint8_t)length;
+    }
+}
+
+/* The card of a full file is sound with any area that lengths part. With many in turn the processor cannot foresee the lengths. */
+static void with_mixed_notes(int rounds)
+{
+    static const char name[] = "a 2C file full with records of 1 and 2 bytes at random, 64 areas in turn";
+    uint32_t state = 2463534242u;
+
+    for (int i = 0; i < AREAS; i++)
+        mix(areas[i], &state);
+    measure_in_turn(AREAS, rounds, name, "query", "00 20 0001", 0, 0x63C3);
+    measure_in_turn(AREAS, rounds, name, "read number 255", "00 B2 FF0C 00", 0, 0x9000);
+}
+
+int main(int count, char **arguments)
+{
+    if (count == 2 && strcmp(arguments[1], "--help") == 0) {
+        usage(stdout);
+        return EXIT_SUCCESS;
+    }
+    is_once = count == 2 && strcmp(arguments[1], "--once") == 0;
+    int rounds = is_once ? 1 : count == 2 ? atoi(arguments[1]) : 0;
+    if (rounds < 1 || rounds > 999) {
+        usage(stderr);
+        return 2;
+    }
+    if (limpet_card_size() > CARD_ROOM) {
+        fprintf(stderr, "notes: a card takes more than %d bytes\n", CARD_ROOM);
+        return EXIT_FAILURE;
+    }
+    without_files(rounds);
+    with_sixteen(rounds);
+    with_binary(rounds);
+    with_fixed(rounds);
+    if (create_notes()) {
+        with_long_notes(rounds);
+        with_short_notes(rounds);
+        with_mixed_notes(rounds);
+    }
+    return EXIT_SUCCESS;
+}
