@@ -44,7 +44,7 @@ extern "C" {
  *
  *   if (limpet_version() != LIMPET_VERSION) ... header and library do not match
  */
-#define LIMPET_VERSION 2
+#define LIMPET_VERSION 3
 
 uint32_t limpet_version(void);
 

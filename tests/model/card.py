@@ -1,4 +1,4 @@
-"""A second reading of document 01, with request R-1 of document 02: the card, in plain Python.
+"""A second reading of document 01, with requests R-1 and R-2 of document 02: the card, in plain Python.
 
 This model was written from the papers alone. It exists to be compared with the proved program, so it favours the
 order and the words of the papers over speed or cleverness, and shares nothing with the code that it is compared to.
@@ -461,32 +461,33 @@ def select(card, area, frame, random):
     return refused(0x6A82)
 
 
-def find_bytes(card, frame, case, right_of, wanted):
+def find_bytes(card, frame, case, right_of, wanted_of):
     """The checks that READ BINARY and UPDATE BINARY share.
 
-    `right_of` gives the rights byte that counts and `wanted` how many bytes are read or written (None where the case
-    is wrong, which is refused before it is used). Gives the SW, the file and the offset.
+    `right_of` gives the rights byte that counts, and `wanted_of` how many bytes are read or written where so many stand
+    from the offset to the end. Gives the SW, the file, the offset and that number.
     """
     if frame.p1 & 0x80 == 0:
         sfi, offset = 0, frame.p1 << 8 | frame.p2
     elif 0x81 <= frame.p1 <= 0x9E:
         sfi, offset = frame.p1 & 0x1F, frame.p2
     else:
-        return 0x6A86, None, 0
+        return 0x6A86, None, 0, 0
     if frame.case != case:
-        return 0x6700, None, 0
+        return 0x6700, None, 0, 0
     file = named_file(card, sfi)
     if file is None:
-        return 0x6A82, None, 0
+        return 0x6A82, None, 0, 0
     if file.kind != BINARY:
-        return 0x6981, None, 0
+        return 0x6981, None, 0, 0
     if not is_allowed(card, right_of(file)):
-        return 0x6982, None, 0
+        return 0x6982, None, 0, 0
     if offset >= file.size:
-        return 0x6A84, None, 0
+        return 0x6A84, None, 0, 0
+    wanted = wanted_of(file.size - offset)
     if offset + wanted > file.size:
-        return 0x6700, None, 0
-    return 0x9000, file, offset
+        return 0x6700, None, 0, 0
+    return 0x9000, file, offset, wanted
 
 
 def read_right(file):
@@ -498,21 +499,28 @@ def write_right(file):
 
 
 def read_binary(card, area, frame, random):
-    sw, file, offset = find_bytes(card, frame, 2, read_right, frame.le)
+    def wanted(left):
+        # Here Le 00 is the smaller of 256 and what is left.
+        return min(256, left) if frame.le == 256 else frame.le
+
+    sw, file, offset, length = find_bytes(card, frame, 2, read_right, wanted)
     if sw != 0x9000:
         return refused(sw)
     card.current = file
     begin = file.start + offset
-    return bytes(area[begin:begin + frame.le]), 0x9000
+    return bytes(area[begin:begin + length]), 0x9000
 
 
 def update_binary(card, area, frame, random):
-    sw, file, offset = find_bytes(card, frame, 3, write_right, len(frame.data))
+    def wanted(left):
+        return len(frame.data)
+
+    sw, file, offset, length = find_bytes(card, frame, 3, write_right, wanted)
     if sw != 0x9000:
         return refused(sw)
     card.current = file
     begin = file.start + offset
-    area[begin:begin + len(frame.data)] = frame.data
+    area[begin:begin + length] = frame.data
     return DONE
 
 

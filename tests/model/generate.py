@@ -445,7 +445,7 @@ class Generator:
         if kind == cards.BINARY:
             size = dice.weighted((
                 (dice.between(1, 40), 55), (dice.between(41, 300), 20), (dice.between(301, 1200), 8),
-                (dice.pick((1, 16, 255, 256, 257)), 8), (dice.pick((room, room, room + 1, room - 1)), 6),
+                (dice.pick((1, 16, 255, 256, 257, 300)), 14), (dice.pick((room, room, room + 1, room - 1)), 6),
                 (dice.pick((whole, whole, whole - 1)), 5)))
             size = max(1, min(size, 4096))
             return bytes((size >> 8, size & 0xFF))
@@ -500,7 +500,7 @@ class Generator:
             # The new file is current and holds 00, or nothing.
             file = self.card.current
             if file.kind == cards.BINARY:
-                self.send(case_2("READ BINARY", 0, 0, min(file.size, 256)))
+                self.send(case_2("READ BINARY", 0, 0, dice.pick((0, min(file.size, 256)))))
             else:
                 self.send(case_2("READ RECORD", 1, 0x04, 0))
 
@@ -538,7 +538,7 @@ class Generator:
                           case_3("APPEND RECORD", 0, 0x00, dice.bytes(1))))
         file = self.card.current
         if file is not None and file.kind == cards.BINARY:
-            sent = case_2("READ BINARY", 0, 0, min(file.size, 256))
+            sent = case_2("READ BINARY", 0, 0, dice.pick((0, min(file.size, 256))))
         elif file is not None:
             sent = case_2("READ RECORD", dice.pick((1, min(max(1, self.held(file)), 255))), 0x04, 0)
         self.send(sent)
@@ -590,7 +590,7 @@ class Generator:
             offset = dice.below(size)
             return offset, dice.between(1, min(256, size - offset))
         if kind < 14:
-            offset = dice.pick((0, size - 1, max(0, size - 255), max(0, size - 256), dice.below(size)))
+            offset = dice.pick((0, self.near_end(size), dice.below(size)))
             return offset, min(256, size - offset)
         if kind < 16:
             offset = dice.pick((size - 1, max(0, size - 2), max(0, size - 255), dice.below(size)))
@@ -599,11 +599,20 @@ class Generator:
             return dice.pick((size, size, size + 1, size + 255, 0x7FFF, 255, 256)), dice.pick((1, 2, 256))
         return dice.below(size), dice.pick((1, 255, 256, size & 0xFF or 256))
 
+    def near_end(self, size):
+        """An offset with few bytes to the end, or about 256: where Le 00 gives all of them and where it does not."""
+        return max(0, size - self.dice.pick((1, 2) if size < 254 else (1, 254, 255, 256, 257, 258)))
+
     def read_binary(self):
         file = self.a_file((cards.BINARY,))
         if file is not None and self.dice.chance(0.7):
             self.obtain(file.read)
-        offset, length = self.span(file.extent if file else 16)
+        size = file.extent if file else 16
+        offset, length = self.span(size)
+        if self.dice.chance(0.35):
+            # What there is, mostly less than 256.
+            offset = self.dice.pick((0, offset, self.near_end(size), self.near_end(size), size, self.dice.below(size)))
+            length = 256
         sfi = self.name_file(file, offset)
         self.send(case_2("READ BINARY", *self.binary_p(sfi, offset), length))
 
@@ -836,7 +845,7 @@ class Generator:
                 if cards.is_allowed(self.card, file.read):
                     self.surely(case_3("SELECT", 0, 0, bytes((file.fid >> 8, file.fid & 0xFF))))
                     for offset in range(0, file.size, 256):
-                        le = min(256, file.size - offset)
+                        le = self.dice.pick((0, min(256, file.size - offset)))
                         self.send(case_2("READ BINARY", offset >> 8, offset & 0xFF, le), spoil=0.005)
             elif max(file.count, self.held(file)) <= 30 or self.dice.chance(0.1):
                 self.read_records(file)
@@ -1046,7 +1055,8 @@ COUNTS = tuple("63C%X" % left for left in range(16))
 EXPECTED = {
     "SELECT": ("9000", "6A86", "6700", "6A82"),
     "READ BINARY": ("9000 28 current", "9000 28 SFI", "6A86", "6700 case", "6A82", "6981 2A", "6981 2C", "6981 2E", "6982 28",
-                    "6A84 28", "6700 28 length"),
+                    "6A84 28", "6700 28 length", "9000 28 current, Le 00", "9000 28 SFI, Le 00", "6981 2A, Le 00",
+                    "6981 2C, Le 00", "6981 2E, Le 00", "6982 28, Le 00", "6A84 28, Le 00"),
     "UPDATE BINARY": ("9000 28 current", "9000 28 SFI", "6A86", "6700 case", "6A82", "6981 2A", "6981 2C", "6981 2E", "6982 28",
                       "6A84 28", "6700 28 length"),
     "READ RECORD": ("9000 2A current", "9000 2A SFI", "9000 2C current", "9000 2C SFI", "9000 2E current", "9000 2E SFI",
@@ -1079,6 +1089,8 @@ class Report:
         self.outcomes = Counter()
         self.pairs = defaultdict(Counter)
         self.full_before = {}
+        # How often Le 00 read a binary file, by the bytes from the offset to the end.
+        self.left = Counter()
         # How often a 2C record of each length was read, and the highest number that was.
         self.lengths = Counter()
         self.highest = 0
@@ -1128,6 +1140,12 @@ class Report:
         label += " %02X" % file.kind
         if name == "READ RECORD" and sw == 0x9000 and file.kind == cards.VARIABLE:
             self.highest = max(self.highest, frame.p1)
+        if name == "READ BINARY" and frame.le == 256:
+            # A 6700 would have a label that is not in the table: Le 00 never gets one.
+            if sw == 0x9000:
+                self.left[file.size - (frame.p2 if sfi else frame.p1 << 8 | frame.p2)] += 1
+                label += " SFI" if sfi else " current"
+            return label + ", Le 00"
         if name == "APPEND RECORD" and sw == 0x9000 and self.full_before.get(file):
             return label + " full"
         if name == "APPEND RECORD" and sw == 0x9000 and file.kind == cards.VARIABLE and file.used == file.size:
@@ -1153,6 +1171,10 @@ class Report:
             missing += ["%s %s" % (name, label) for label in expected if not reached[label]]
             unexpected = sorted(set(reached) - set(expected))
             missing += ["%s %s is not in the table" % (name, label) for label in unexpected]
+        edges = (1, 2, 254, 255, 256, 257, 258)
+        print("READ BINARY with Le 00: %s; %d with under 256 left, %d with more" % (
+            ", ".join("%d with %d" % (self.left[left], left) for left in edges),
+            sum(self.left[left] for left in self.left if left < 256), sum(self.left[left] for left in self.left if left > 256)))
         print("2C records read: %d lengths, %s; the highest number is %d" % (
             len(self.lengths), ", ".join("%d of %d" % (self.lengths[length], length) for length in (1, 177, 178)), self.highest))
         for entry in missing:

@@ -1,4 +1,4 @@
-"""Checks the model itself against document 01 and request R-1 of document 02: python3 tests/model/selftest.py
+"""Checks the model itself against document 01 and requests R-1 and R-2 of document 02: python3 tests/model/selftest.py
 
 The expected answers are worked out from the papers.
 """
@@ -576,7 +576,7 @@ def test_files():
             ("00B0810004", "00000000 9000"), ("00D6000102BEEF", "9000"), ("00B0000004", "00BEEF00 9000"),
             ("00B0820001", "6981"), ("00B0830001", "6A82"), ("00B0800001", "6A86"), ("00B09F0001", "6A86"),
             ("00B0A10001", "6A86"), ("00B0FF0001", "6A86"), ("00B09E0001", "6981"), ("00B07FFF01", "6A84"),
-            ("00B0000005", "6700"), ("00B0000000", "6700"), ("00B00000", "6700"), ("00B0000001AA", "6700"),
+            ("00B0000005", "6700"), ("00B0000000", "00BEEF00 9000"), ("00B00000", "6700"), ("00B0000001AA", "6700"),
             ("00D60000", "6700"), ("00D6000001", "6700"), ("00D6000001AA00", "6700"),
             # The current file is still the first: a refused command with SFI changes nothing.
             ("00B0000004", "00BEEF00 9000"),
@@ -603,7 +603,83 @@ def test_files():
     check("a large offset by P", session.send("00D603FF0101"), "9000")
     check("by SFI an offset is one byte", session.send("00B081FF00"), "00" * 256 + " 9000")
     check("Le 00 is 256", session.send("00B0030000"), "00" * 255 + "01 9000")
-    check("Le 00 past the end", session.send("00B0030100"), "6700")
+    check("Le 00 is no more than what is left", session.send("00B0030100"), "00" * 254 + "01 9000")
+
+
+def test_read_to_end():
+    """Le 00 in READ BINARY: the smaller of 256 and the bytes from the offset to the end."""
+    content = [bytes((place * 7 + place // 256) & 0xFF for place in range(size)) for size in (40, 256, 257, 4096)]
+
+    def card_with(content, more=()):
+        """One free file with such bytes, SFI 1, which is current when all that is sent besides is done."""
+        session = device_session()
+        sent = ["80E00001 05 28%04X0000" % len(content), *more, "00A40000020001"]
+        for place in range(0, len(content), 255):
+            part = content[place:place + 255]
+            sent.append("00D6%04X%02X%s" % (place, len(part), part.hex().upper()))
+        check("a file of %d" % len(content), {session.send(command) for command in sent}, {"9000"})
+        return session
+
+    # A file of 40 from every offset, in the current file and by SFI; the file behind it must not show.
+    behind = ("80E00002 05 2800400000", "00D6000040" + "FF" * 64)
+    session = card_with(content[0], more=behind)
+    for offset in range(40):
+        expected = content[0][offset:].hex().upper() + " 9000"
+        check("40 bytes, Le 00 at %d" % offset, session.send("00B0%04X00" % offset), expected)
+        check("40 bytes by SFI, Le 00 at %d" % offset, session.send("00B081%02X00" % offset), expected)
+    for offset in (40, 41, 255):
+        check("40 bytes, Le 00 at %d" % offset, session.send("00B0%04X00" % offset), "6A84")
+        check("40 bytes by SFI, Le 00 at %d" % offset, session.send("00B081%02X00" % offset), "6A84")
+    check("Le 00 at the last offset there is", session.send("00B07FFF00"), "6A84")
+
+    # Around 256 bytes to the end: 255, 256 and 257 are left.
+    for held, offset, length in ((1, 0, 256), (1, 1, 255), (1, 255, 1), (2, 0, 256), (2, 1, 256), (2, 2, 255), (2, 256, 1),
+                                 (3, 0, 256), (3, 1, 256), (3, 3839, 256), (3, 3840, 256), (3, 3841, 255), (3, 4095, 1)):
+        expected = content[held][offset:offset + length]
+        check("%d bytes are meant" % length, len(expected), length)
+        session = card_with(content[held])
+        check("%d bytes, Le 00 at %d" % (len(content[held]), offset), session.send("00B0%04X00" % offset),
+              expected.hex().upper() + " 9000")
+        if offset <= 255:
+            session.send("00A40000023F00")
+            check("%d bytes by SFI, Le 00 at %d" % (len(content[held]), offset), session.send("00B081%02X00" % offset),
+                  expected.hex().upper() + " 9000")
+            check("and then it is current", session.send("00B0000001"), content[held][:1].hex().upper() + " 9000")
+    for held in (1, 2, 3):
+        check("Le 00 at the size", card_with(content[held]).send("00B0%04X00" % len(content[held])), "6A84")
+
+    # Every other Le is exact, as before.
+    session = card_with(content[0], more=behind)
+    for offset in (0, 1, 20, 38, 39):
+        answers = [session.send("00B0%04X%02X" % (offset, le)) for le in range(1, 256)]
+        check("40 bytes, any other Le at %d" % offset, answers,
+              [content[0][offset:offset + le].hex().upper() + " 9000" if offset + le <= 40 else "6700" for le in range(1, 256)])
+    check("257 bytes, Le FF where 254 are left", card_with(content[2]).send("00B00003FF"), "6700")
+
+    # The checks before are as they were, and a refusal leaves the current file.
+    session = card_with(content[0], more=(
+        "80E00002 05 2800284040", "80E00003 05 2800280F00", "80E00004 05 2A02040000", "80E00005 05 2C00280000",
+        "80E00006 05 2E02040000"))
+    for sent, expected in (
+            ("00B0820000", "6982"), ("00B0822700", "6982"), ("00B082FF00", "6982"), ("00B0830000", "6982"),
+            ("00B083FF00", "6982"), ("00B0840000", "6981"), ("00B0850000", "6981"), ("00B0860000", "6981"),
+            ("00B0870000", "6A82"), ("00B0800000", "6A86"), ("00B09F0000", "6A86"), ("00B0810001AA00", "6700"),
+            ("00B0812800", "6A84"), ("00B0002700", content[0][39:].hex().upper() + " 9000")):
+        check("Le 00, %s" % sent, session.send(sent), expected)
+    session.user()
+    check("Le 00 with the right", session.send("00B0820000"), "00" * 40 + " 9000")
+    check("never is never", session.send("00B0830000"), "6982")
+    session.send("00A40000023F00")
+    check("Le 00 without a file", session.send("00B0000000"), "6A82")
+
+    # UPDATE BINARY, READ RECORD and GET CHALLENGE are as before.
+    check("UPDATE BINARY past the end", session.send("00D6812702AABB"), "6700")
+    check("UPDATE BINARY of 255 past the end", session.send("00D68100FF" + "AA" * 255), "6700")
+    check("UPDATE BINARY, Le 00", session.send("00D6810000"), "6700")
+    check("nothing was written", session.send("00B0810000"), content[0].hex().upper() + " 9000")
+    check("READ RECORD, Le 00", session.send("00B2012400"), "00000000 9000")
+    check("READ RECORD, Le FF", session.send("00B20124FF"), "6C04")
+    check("GET CHALLENGE, Le 00", session.send("0084000000"), "6700")
 
 
 def test_rights():
@@ -856,29 +932,83 @@ class Lists:
         return b"", 0x9000
 
 
+class Contents:
+    """The binary files of a card as plain bytes, beside the area that the model keeps.
+
+    Answers up to the right are taken as they come; what follows from offset and length is worked out from the bytes alone.
+    """
+
+    def __init__(self):
+        self.files = {}
+        self.compared = 0
+        self.to_end = 0
+        self.disagreements = []
+
+    def watch(self, program, line, answer):
+        outcome, data, sw = answer
+        if outcome != 0:
+            return
+        if line.startswith(b"ISSUE"):
+            self.files = {}
+        if sw is None or sw in (0x6A86, 0x6A82, 0x6981, 0x6982, 0x6D00, 0x6E00):
+            return
+        sent = script.bytes_of(line.split(b"\t")[1])
+        frame = cards.frame_of(sent)
+        if frame is None:
+            return
+        name = next(name for cla, ins, name, _ in cards.LIST if (cla, ins) == (sent[0], sent[1]))
+        if name == "CREATE FILE" and sw == 0x9000 and frame.data[0] == 0x28:
+            self.files[frame.p2 & 0x1F] = bytes(frame.data[1] << 8 | frame.data[2])
+        if "BINARY" not in name or frame.case != (2 if name == "READ BINARY" else 3):
+            return
+        # Without SFI the current file is meant, which the command did not change.
+        sfi, offset = (frame.p1 & 0x1F, frame.p2) if frame.p1 & 0x80 else (program.card.current.sfi, frame.p1 << 8 | frame.p2)
+        expected = self.expected(name, frame, sfi, offset)
+        self.compared += 1
+        self.to_end += name == "READ BINARY" and sw == 0x9000 and frame.le == 256 and len(data) < 256
+        if expected != (data, sw):
+            self.disagreements.append((line, expected, (data, sw)))
+
+    def expected(self, name, frame, sfi, offset):
+        before, rest = self.files[sfi][:offset], self.files[sfi][offset:]
+        if rest == b"":
+            return b"", 0x6A84
+        if name == "READ BINARY":
+            shown = rest[:frame.le]
+            return (shown, 0x9000) if len(shown) == frame.le or frame.le == 256 else (b"", 0x6700)
+        if len(frame.data) > len(rest):
+            return b"", 0x6700
+        self.files[sfi] = before + frame.data + rest[len(frame.data):]
+        return b"", 0x9000
+
+
 def test_generated():
     check("a seed always gives the same script", generate.script_of(7, 500), generate.script_of(7, 500))
     check("seeds differ", generate.script_of(7, 500) == generate.script_of(8, 500), False)
     check("as many lines as asked for", [len(script.lines_of(generate.script_of(seed, 300))) for seed in range(20)],
           [300] * 20)
     for seed in range(1, 4):
-        history, lists = History(), Lists()
+        history, lists, contents = History(), Lists(), Contents()
 
         def watch(*seen):
             history.watch(*seen)
             lists.watch(*seen)
+            contents.watch(*seen)
 
         generate.Generator(seed, 4000, watch).write()
         check("rights follow from history, seed %d" % seed, history.disagreements, [])
         check("every state is sound, seed %d" % seed, history.unsound, 0)
         check("2C files are lists of records, seed %d" % seed, lists.disagreements[:3], [])
         check("2C files are used often, seed %d" % seed, lists.compared > 300, True)
+        check("binary files are bytes, seed %d" % seed, contents.disagreements[:3], [])
+        check("binary files are used often, seed %d" % seed, contents.compared > 100, True)
+        check("and read to the end, seed %d" % seed, contents.to_end > 20, True)
 
 
 def main():
     for test in (test_cipher, test_example, test_edges, test_errors_that_look_right, test_calls, test_variable_soundness,
-                 test_variable_space, test_variable_records, test_variable_many, test_framing, test_files, test_rights,
-                 test_credentials, test_grammar, test_generated):
+                 test_variable_space, test_variable_records, test_variable_many, test_framing, test_files, test_read_to_end,
+                 test_rights, test_credentials, test_grammar, test_generated):
         test()
     print("%d passed, %d failed" % (passed, failed))
     return 1 if failed else 0

@@ -97,9 +97,11 @@ def longest(ask):
     content = "".join(f"{byte:02X}" for byte in range(1, 256))
     ask("80E0A10205280100" + "0000", "9000", "binary, 256 bytes, free to read and to write; the device is logged in")
     ask("00D60000FF" + content, "9000", "255 bytes at offset 0")
-    ask("00B0000000", content + "00" + "9000", "Le 00 stands for 256, and a new file's bytes are 00")
-    ask("00B0000100", "6700", "256 bytes from offset 1 go past the end")
-    ask("00B0010000", "6A84", "the offset is not below the size")
+    ask("00B0000000", content + "00" + "9000", "Le 00 is what there is, here 256 bytes, and a new file's bytes are 00")
+    ask("00B0000100", content[2:] + "00" + "9000", "Le 00 from offset 1 is the 255 bytes to the end")
+    ask("00B082FF00", "00" + "9000", "and from offset 255 the last one, by SFI too")
+    ask("00B082FF02", "6700", "two bytes from offset 255 go past the end")
+    ask("00B0010000", "6A84", "the offset is not below the size, and that comes first")
 
 
 def data_field(digits):

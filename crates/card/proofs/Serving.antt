@@ -32,13 +32,13 @@ use Rattle.rules.specs.Pins.{pinGiven, changeChecks, reloadChecks}
 use Rattle.rules.specs.Device.{getChallengeChecks}
 use Rattle.rules.specs.Frame.{Command, lc}
 use Rattle.rules.specs.Effect.{shows}
-use Rattle.rules.specs.Binary.{target, fileOf, fileSw, binarySfi, binaryTarget, offset, readBinaryChecks, readBinaryEffect, updateBinaryChecks, updateBinaryEffect}
+use Rattle.rules.specs.Binary.{target, fileOf, fileSw, binarySfi, binaryTarget, offset, readCount, readBinaryChecks, readBinaryEffect, updateBinaryChecks, updateBinaryEffect}
 use Rattle.rules.specs.Record.{recordTarget, recordFound, readRecordChecks, readRecordEffect, updateRecordChecks, updateRecordEffect, appendChecks, appendEffect}
 use Rattle.rules.specs.Create.{fileGiven, createChecks, createEffect}
 use Rattle.rules.specs.Step.{addressed}
 use Rattle.rules.proofs.Checks.{Passed, passed, holds, one-of}
 use Rattle.rules.proofs.Good.{sound-good}
-use Rattle.rules.proofs.Targets.{target-low, place-in-area, place-run}
+use Rattle.rules.proofs.Targets.{read-few, target-low, place-in-area, place-run}
 use Rattle.rules.proofs.Asked.{challenge-asked, some-file, binary-asked, create-asked}
 use Rattle.rules.proofs.Found.{read-served, read-fits, read-long, update-served, appends}
 use Rattle.card.specs.declared.Carried.{Carried}
@@ -99,19 +99,21 @@ module _ (c : Card) (area : List ℕ) (h : Ready c area) where
       omega (arith, place-run (c .directory) directory-sound (target c sfi) some (target-low c (sound-good c area (h .is-sound)) sfi) a n k, h .area-size)
 
   module _ (k : Command) (place : ℕ) (r : Carried) where
-    pub binary-read : (off : ℕ) (reply reply′ : List ℕ) (answer : Bool) → first (readBinaryChecks c k) ≡ 0x9000 → k .le ≤ 256 → 256 ≤ length reply
-        → place ≡ binaryTarget c k → off ≡ offset k
-        → Reading (onArea (c .directory) place (length area) (readsBinary (file (c .directory) place) off (k .le) (length reply))) (part (start (c .directory) place + off) (k .le) area) reply answer reply′
-        → r ≡ carried (withCurrent c place) 0x9000 0 (k .le) → Shows (readBinaryEffect c k) area reply r reply′
+    pub binary-read : (off n : ℕ) (reply reply′ : List ℕ) (answer : Bool) → first (readBinaryChecks c k) ≡ 0x9000 → k .le ≤ 256 → 256 ≤ length reply
+        → place ≡ binaryTarget c k → off ≡ offset k → n ≡ readCount (fileOf c (binaryTarget c k)) k
+        → Reading (onArea (c .directory) place (length area) (readsBinary (file (c .directory) place) off n (length reply))) (part (start (c .directory) place + off) n area) reply answer reply′
+        → r ≡ carried (withCurrent c place) 0x9000 0 n → Shows (readBinaryEffect c k) area reply r reply′
     unfolding readBinaryChecks readsBinary
-    binary-read off reply reply′ answer checked few room e f served is =
+    binary-read off n reply reply′ answer checked le room e f m served is =
         let p = passed (readBinaryChecks c k) checked in
         let some = some-file (binaryTarget c k) (p .1 .1 .0) in
-        let asked = binary-asked c (binaryTarget c k) (fileOf c (binaryTarget c k) .read) (offset k) (k .le) (p .1 .1) in
-        reading-shows (withCurrent c (binaryTarget c k)) (start (c .directory) (binaryTarget c k) + offset k) (k .le) area reply reply′ _ answer r
-        (on-area (binarySfi k) _ some (join asked (le-leb (k .le) (length reply) (omega arith))))
-        (rw (e, f) at served) (is ∙ ap (λ (t : ℕ). carried (withCurrent c t) 0x9000 0 (k .le)) e)
-        (run-inside (binarySfi k) (offset k) (k .le) some (binary-fits (fileOf c (binaryTarget c k)) (offset k) (k .le) asked)) few
+        let most = readCount (fileOf c (binaryTarget c k)) k in
+        let few : most ≤ 256 = read-few (fileOf c (binaryTarget c k)) k le in
+        let asked = binary-asked c (binaryTarget c k) (fileOf c (binaryTarget c k) .read) (offset k) most (p .1 .1) in
+        reading-shows (withCurrent c (binaryTarget c k)) (start (c .directory) (binaryTarget c k) + offset k) most area reply reply′ _ answer r
+        (on-area (binarySfi k) _ some (join asked (le-leb most (length reply) (omega arith))))
+        (rw (e, f, m) at served) (is ∙ rw (e, m))
+        (run-inside (binarySfi k) (offset k) most some (binary-fits (fileOf c (binaryTarget c k)) (offset k) most asked)) few
 
     pub binary-updated : (off : ℕ) (area′ : List ℕ) (answer : Bool) → first (updateBinaryChecks c k) ≡ 0x9000 → place ≡ binaryTarget c k → off ≡ offset k
         → Writing (onArea (c .directory) place (length area) (inBinary (file (c .directory) place) off (lc k))) area (start (c .directory) place + off) (k .given) answer area′

@@ -36,7 +36,7 @@ use Rattle.rules.specs.State.{Which, device, admin, user, withValue, withLogin}
 use Rattle.rules.specs.Sound.{sound}
 use Rattle.rules.specs.Frame.{Command, lc}
 use Rattle.rules.specs.Effect.{Effect, answers}
-use Rattle.rules.specs.Binary.{fileOf, rightSw, offset, binaryTarget, readBinaryChecks, updateBinaryChecks}
+use Rattle.rules.specs.Binary.{fileOf, rightSw, offset, binaryTarget, readCount, readBinaryChecks, updateBinaryChecks}
 use Rattle.rules.specs.Record.{recordTarget, recordFound, readRecordChecks, updateRecordChecks, appendChecks}
 use Rattle.rules.specs.Pins.{pinNamed, compared}
 use Rattle.rules.specs.Create.{fileGiven}
@@ -175,8 +175,9 @@ module _ (c : Card) (area : List ℕ) (h : sound c area ≡ true) (place : ℕ) 
       size-is = refl;
       kept = inl (record { file-is = refl; apart = inr (omega arith) });
       hidden =
-          shown-by b (offset k) (k .le) (some-file b (p .1 .1 .0))
-          (binary-fits _ (offset k) (k .le) (binary-asked c b _ (offset k) (k .le) (p .1 .1))) (p .1 .1 .1 .1 .0);
+          let n = readCount (fileOf c b) k in
+          shown-by b (offset k) n (some-file b (p .1 .1 .0))
+          (binary-fits _ (offset k) n (binary-asked c b _ (offset k) n (p .1 .1))) (p .1 .1 .1 .1 .0);
     }
     row UpdateBinary p = record {
       there = low;

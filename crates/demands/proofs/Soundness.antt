@@ -37,7 +37,7 @@ use Rattle.rules.specs.Sound.{goodPin, soundPin, soundState, sound}
 use Rattle.rules.specs.Frame.{Command, framed, lc}
 use Rattle.rules.specs.List.{listed}
 use Rattle.rules.specs.Effect.{Effect, answers, shows, stores}
-use Rattle.rules.specs.Binary.{target, fileOf, offset, binaryTarget, readBinaryChecks, updateBinaryChecks}
+use Rattle.rules.specs.Binary.{target, fileOf, offset, binaryTarget, readCount, readBinaryChecks, updateBinaryChecks}
 use Rattle.rules.specs.Record.{recordTarget, recordFound, readRecordChecks, updateRecordChecks, appendChecks}
 use Rattle.rules.specs.Pins.{pinNamed, pinGiven, compared, changeChecks, reloadChecks}
 use Rattle.rules.specs.Device.{cryptogram}
@@ -48,7 +48,7 @@ use Rattle.demands.specs.Soundness.{Bytes, StepSound, CyclicRoom, StepAr
 use Rattle.rules.proofs.Checks.{Passed, holds, either, ruled-by}
 use Rattle.demands.proofs.Calls.{called-by, reset-by, issued-by}
 use Rattle.rules.proofs.Good.{Good, sound-good, sound-parted, sound-both, tried-full, tried-lowered, pin-sound, sayable, said-short, placed, turned, tried-in, logged, valued, challenged, ended, made}
-use Rattle.rules.proofs.Targets.{used-count, place-named, place-held, place-run, target-low, selected-low}
+use Rattle.rules.proofs.Targets.{read-few, used-count, place-named, place-held, place-run, target-low, selected-low}
 use Rattle.rules.proofs.Asked.{some-file, binary-asked, create-asked, pin-asked, challenge-asked}
 use Rattle.rules.proofs.Found.{read-fits, read-long, update-fits, appends, append-fits}
 use Rattle.demands.proofs.Files.{value-files, login-files, treats, treated-parted}
@@ -124,8 +124,9 @@ module _ (c : Card) (area : List ℕ) (h : sound c area ≡ true) (k : Command) 
   unfolding addressed checks effectOf readBinaryChecks updateBinaryChecks readRecordChecks updateRecordChecks appendChecks changeChecks reloadChecks created
   row Select p = leaves-card _ _ (turned c g _ (selected-low c g k)) refl
   row ReadBinary p =
-      leaves-shown _ (turned c g _ (low _)) refl b (offset k) (some-file b (p .1 .1 .0)) (low _) (k .le)
-      (binary-fits _ (offset k) (k .le) (binary-asked c b _ (offset k) (k .le) (p .1 .1))) (λ m. m)
+      let n = readCount (fileOf c b) k in
+      leaves-shown _ (turned c g _ (low _)) refl b (offset k) (some-file b (p .1 .1 .0)) (low _) n
+      (binary-fits _ (offset k) n (binary-asked c b _ (offset k) n (p .1 .1))) (read-few (fileOf c b) k)
   row UpdateBinary p =
       leaves-stored _ (turned c g _ (low _)) refl b (offset k) (some-file b (p .1 .1 .0)) (low _) (k .given)
       (binary-fits _ (offset k) (lc k) (binary-asked c b _ (offset k) (lc k) (p .1 .1)))

@@ -21,7 +21,7 @@ use Rattle.rules.specs.Sound.{goodPin, soundPin, soundLogin, soundChallenge, so
 use Rattle.rules.specs.Frame.{caseOf, framed}
 use Rattle.rules.specs.List.{rows, find, listed}
 use Rattle.rules.specs.Select.{selectChecks}
-use Rattle.rules.specs.Binary.{target, readBinaryChecks, updateBinaryChecks}
+use Rattle.rules.specs.Binary.{target, readCount, readBinaryChecks, updateBinaryChecks}
 use Rattle.rules.specs.Record.{recordFound, readRecordChecks, updateRecordChecks, appendChecks}
 use Rattle.rules.specs.Pins.{compared, verifyChecks, changeChecks, reloadChecks}
 use Rattle.rules.specs.Device.{authenticateChecks, getChallengeChecks}
@@ -32,5 +32,5 @@ use Rattle.edges.specs.Table.{allHold}
 use Rattle.edges.specs.Edges.{edges}
 
 pub edges-hold : allHold edges ≡ true
-unfolding xPower square squares inverse sbox mixColumn expanded keyExpansion roundKey fullRound lastRound rounds cipher aes128 allBelow part splice over count recordLength size goodShape allowed goodRights soundRights used startAt extent isPlace inArea seek findFid findSfi back next bytesUsed placesHeld placeOf recordsHeld startOf lengthOf located locatedIn nextPlace nextStart entry appended soundHeld soundUsed partedFile isRecord hasRoom stands past walk parted standing goodContents sfiUnused room created soundFile unusedPlace sfisDiffer soundDirectory partedArea orElse allOf same goodPin soundPin soundLogin soundChallenge soundState sound caseOf framed rows find listed selectChecks target readBinaryChecks updateBinaryChecks recordFound readRecordChecks updateRecordChecks appendChecks compared verifyChecks changeChecks reloadChecks authenticateChecks getChallengeChecks fileGiven createChecks addressed checks effectOf outcome settled step command reset goodOrder issue
+unfolding xPower square squares inverse sbox mixColumn expanded keyExpansion roundKey fullRound lastRound rounds cipher aes128 allBelow part splice over count recordLength size goodShape allowed goodRights soundRights used startAt extent isPlace inArea seek findFid findSfi back next bytesUsed placesHeld placeOf recordsHeld startOf lengthOf located locatedIn nextPlace nextStart entry appended soundHeld soundUsed partedFile isRecord hasRoom stands past walk parted standing goodContents sfiUnused room created soundFile unusedPlace sfisDiffer soundDirectory partedArea orElse allOf same goodPin soundPin soundLogin soundChallenge soundState sound caseOf framed rows find listed selectChecks target readCount readBinaryChecks updateBinaryChecks recordFound readRecordChecks updateRecordChecks appendChecks compared verifyChecks changeChecks reloadChecks authenticateChecks getChallengeChecks fileGiven createChecks addressed checks effectOf outcome settled step command reset goodOrder issue
 edges-hold = refl

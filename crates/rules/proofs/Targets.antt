@@ -1,5 +1,5 @@
 -- What a command addresses: of a sound directory each used place, of a sound file its shape, of a sound card the target of an SFI.
-use Prim.Native.Nat.{ℕ, _+_, _-_, _≤_}
+use Prim.Native.Nat.{ℕ, _+_, _-_, _≤_, min}
 use mathlib.Core.Bool.{true, false, cond}
 use mathlib.Core.List.{[], _∷_}
 use mathlib.Core.Path.{_≡_}
@@ -21,8 +21,13 @@ use Rattle.files.proofs.Kept.{filed, file-sound, sound-in-area}
 use Rattle.rules.specs.declared.Card.{Card}
 use Rattle.rules.specs.Frame.{Command}
 use Rattle.rules.specs.Select.{root, fidGiven, selected}
-use Rattle.rules.specs.Binary.{target}
+use Rattle.rules.specs.Binary.{target, offset, readCount}
 use Rattle.rules.proofs.Good.{Good}
+
+-- no more bytes are read than Le says
+pub read-few : (f : File) (k : Command) → k .le ≤ 256 → readCount f k ≤ 256
+unfolding readCount
+read-few f k h = split (λ n. n ≤ 256) (eqb (k .le) 256) (λ e. omega arith) (λ e. h)
 
 pub not-zero : (place : ℕ) → isZero place ≡ false → 1 ≤ place
 not-zero place h = let e : place ≡ 0 → ⊥ = eqb-false place 0 h in omega (arith, e)

@@ -5,7 +5,7 @@ use Rattle.card.specs.Carried.{carried}
 use Rattle.card.specs.Head.{commandOf}
 use Rattle.rules.specs.Device.{getChallengeChecks, authenticateEffect}
 use Rattle.rules.specs.Record.{readRecordChecks}
-use Rattle.rules.specs.Binary.{readBinaryChecks}
+use Rattle.rules.specs.Binary.{readCount, readBinaryChecks}
 use Rattle.rules.specs.Pins.{verifyEffect}
 use Rattle.rules.specs.State.{logins}
 use Rattle.rules.specs.Step.{addressed, checks, effectOf}
@@ -29,7 +29,7 @@ enum-told-2 : tie.Need-enum-told-2
 enum-told-2 c = c .match .keys2
 
 read-binary-requires : tie.Need-read-binary-requires
-unfolding checks readBinaryChecks
+unfolding checks readCount readBinaryChecks
 read-binary-requires c κs =
     let s = c .before .before .before .before .before .before .before .before in
     let told = c .before .before .enum-told2 .given .1 in
@@ -161,7 +161,7 @@ same-length-2 : tie.Need-same-length-2
 same-length-2 c = c .before .reply .given
 
 returns-2 : tie.Need-returns-2
-unfolding effectOf
+unfolding effectOf readCount
 returns-2 c =
     let a = c .before .before .before .before .before .before .before .before .before .before .before .args in
     rw (c .before .before .before .before .before .enum-told2 .given .1) (showing (now (a .random)) (now (a .area)) (now (a .reply)) _ _ _ _ (c .before .before .read-binary .result) (c .before .before .read-binary .ensures))
