@@ -25,6 +25,7 @@ has() {
     gcc-x86-64-linux-gnu | g++-x86-64-linux-gnu) command -v "x86_64-linux-gnu-${1%%-*}" ;;
     libc6-dev) gcc -E -include stdio.h -x c /dev/null ;;
     libc6-dev-amd64-cross) x86_64-linux-gnu-gcc -E -include stdio.h -x c /dev/null ;;
+    libbearssl-dev) gcc -E -include bearssl.h -x c /dev/null ;;
     libssl-dev) gcc -E -include openssl/evp.h -x c /dev/null ;;
     opensc) command -v opensc-tool ;;
     pcsc-tools) command -v scriptor && command -v ATR_analysis ;;
@@ -107,6 +108,41 @@ build_library() {
     fi
 }
 
+# build_table_version: has `table_version` name libcipher.a as it was with the substitution table. Where it is not there, it is proved
+# and built from the last commit that had the table, outside of this checkout.
+build_table_version() {
+    local without tree status=0
+    table_version=target/table-version/libcipher.a
+    if [ -e $table_version ]; then
+        return
+    fi
+    without=$(git log -1 --format=%H --diff-filter=D -- crates/cipher/src/table.rt)
+    if [ -z "$without" ]; then
+        echo "the version with the table is not in this history: git log finds no commit that removes crates/cipher/src/table.rt" >&2
+        return 1
+    fi
+    echo "building libcipher.a with the table, from the commit before $without" >&2
+    tree=$(mktemp -d)
+    mkdir -p "$(dirname $table_version)"
+    if git worktree add -q --detach "$tree/r" "$without^"; then
+        (cd "$tree/r" && rt staticlib cipher) >"$tree/log" 2>&1 &&
+            cp "$tree/r/target/staticlib/libcipher.a" $table_version || { status=1 && cat "$tree/log" >&2; }
+        git worktree remove --force "$tree/r"
+    else
+        status=1
+    fi
+    rm -rf "$tree"
+    return $status
+}
+
+# sections ARCHIVE: the bytes of its code and of its constants, without tables for unwinding the stack.
+sections() {
+    x86_64-linux-gnu-size -A "$1" | awk '
+        $1 ~ /^\.text/ { code += $2 }
+        $1 ~ /^\.(rodata|data)/ { constants += $2 }
+        END { print code + 0, constants + 0 }'
+}
+
 # The program of reader/, over $library.
 build_reader() {
     if [ ! -e $reader ] || [ -n "$(find reader include "$library" -type f -newer $reader -print -quit)" ]; then
@@ -126,6 +162,7 @@ build_bench() {
     refusals) sources=(refusals.c spoiled.c areas.c groups.c cards.c watched.c layout.c lent.c) ;;
     verifies) sources=(verifies.c) ;;
     notes) sources=(notes.c) ;;
+    blocks) sources=(blocks.c) ;;
     calls) sources=(calls.c play.c lines.c) ;;
     stack) sources=(stack.c play.c lines.c) libraries+=(target/staticlib/libcipher.a) ;;
     *) echo "there is no bench program $name" >&2 && return 1 ;;
@@ -139,13 +176,15 @@ build_bench() {
     $cc -std=c11 "$@" "${strict[@]}" "${sources[@]/#/bench/}" "${libraries[@]}" -o "$built/$name"
 }
 
-# count_instructions PROGRAM ARGUMENT...: a line for each call of limpet_command that the program makes: what it prints of the call,
-# and how many instructions the call takes, by callgrind. Callgrind writes a part with its own total after each call, and one at the end.
+# count_instructions FUNCTION PROGRAM ARGUMENT...: a line for each call of the function that the program makes: what it prints of the
+# call, and how many instructions the call takes, by callgrind. Callgrind writes a part with its own total after each call, and one
+# at the end.
 count_instructions() {
-    local counts
+    local function=$1 counts
+    shift
     counts=$(mktemp -d)
     valgrind -q --tool=callgrind --callgrind-out-file="$counts/out" --combine-dumps=yes \
-        --toggle-collect=limpet_command --dump-after=limpet_command "$@" >"$counts/calls" &&
+        --toggle-collect="$function" --dump-after="$function" "$@" >"$counts/calls" &&
         sed -n 's/^totals: //p' "$counts/out" | sed '$d' >"$counts/totals" &&
         [ "$(wc -l <"$counts/calls")" = "$(wc -l <"$counts/totals")" ] &&
         paste -d ' ' "$counts/calls" "$counts/totals"

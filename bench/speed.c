@@ -1,13 +1,13 @@
 /*
  * The time that one block of AES-128 takes, key expansion included, in
- * limpet_aes128 and in three others, measured in one run.
+ * limpet_aes128 and in others, measured in one run.
  *
  * In each round every one of them enciphers the same chain of blocks, in which
  * each output is the next input, so that no call can begin before the one
  * before it has ended. The rounds alternate between them, so that a slow moment
  * of the machine does not meet only one, and the best round of each counts.
  *
- * With WITH_OPENSSL defined, openssl's is one of them.
+ * With WITH_OTHERS defined, openssl's and BearSSL's are among them.
  */
 #define _POSIX_C_SOURCE 200809L /* clock_gettime */
 
@@ -16,8 +16,9 @@
 #include <string.h>
 #include <time.h>
 
-#ifdef WITH_OPENSSL
+#ifdef WITH_OTHERS
 #define OPENSSL_SUPPRESS_DEPRECATED /* AES_encrypt: the plain call, with no layers over it */
+#include <bearssl.h>
 #include <openssl/aes.h>
 #include <openssl/crypto.h>
 #endif
@@ -31,19 +32,49 @@ typedef void cipher(const uint8_t key[SIZE], const uint8_t block[SIZE], uint8_t 
 /* aes_bytes.c, compiled twice */
 cipher aes_bytes_O2, aes_bytes_O3;
 
+/* limpet_aes128 as it was with a table */
+uint8_t limpet_aes128_table(const uint8_t *key, size_t key_len,
+                            const uint8_t *block, size_t block_len,
+                            uint8_t *out, size_t out_len);
+
 static void ours(const uint8_t *key, const uint8_t *block, uint8_t *out)
 {
     if (limpet_aes128(key, SIZE, block, SIZE, out, SIZE) != LIMPET_OK)
         abort();
 }
 
-#ifdef WITH_OPENSSL
+static void with_table(const uint8_t *key, const uint8_t *block, uint8_t *out)
+{
+    if (limpet_aes128_table(key, SIZE, block, SIZE, out, SIZE) != LIMPET_OK)
+        abort();
+}
+
+#ifdef WITH_OTHERS
 static void openssls(const uint8_t *key, const uint8_t *block, uint8_t *out)
 {
     AES_KEY expanded;
     if (AES_set_encrypt_key(key, 8 * SIZE, &expanded) != 0)
         abort();
     AES_encrypt(block, out, &expanded);
+}
+
+/* BearSSL has no call for one block. CBC of one block, from zeros on, is that. */
+static void bearssls_32(const uint8_t *key, const uint8_t *block, uint8_t *out)
+{
+    br_aes_ct_cbcenc_keys expanded;
+    uint8_t zeros[SIZE] = { 0 };
+    br_aes_ct_cbcenc_init(&expanded, key, SIZE);
+    memcpy(out, block, SIZE);
+    br_aes_ct_cbcenc_run(&expanded, zeros, out, SIZE);
+}
+
+static void bearssls_64(const uint8_t *key, const uint8_t *block, uint8_t *out)
+{
+    br_aes_ct64_cbcenc_keys expanded;
+    uint8_t zeros[SIZE] = { 0 };
+    br_aes_ct64_cbcenc_init(&expanded, key, SIZE);
+    memcpy(out, block, SIZE);
+    br_aes_ct64_cbcenc_run(&expanded, zeros, out, SIZE);
 }
 #endif
 
@@ -54,10 +85,13 @@ static struct contender {
     uint8_t last[SIZE];
 } contenders[] = {
     { "ours (limpet_aes128)", ours, 0, { 0 } },
+    { "ours, as it was with a table", with_table, 0, { 0 } },
     { "C by bytes, gcc -O2", aes_bytes_O2, 0, { 0 } },
     { "C by bytes, gcc -O3", aes_bytes_O3, 0, { 0 } },
-#ifdef WITH_OPENSSL
+#ifdef WITH_OTHERS
     { "openssl AES_set_encrypt_key and AES_encrypt", openssls, 0, { 0 } },
+    { "BearSSL aes_ct, 32 bits, constant time", bearssls_32, 0, { 0 } },
+    { "BearSSL aes_ct64, 64 bits, constant time", bearssls_64, 0, { 0 } },
 #endif
 };
 
@@ -127,7 +161,7 @@ int main(void)
         }
     expect_same_last_block("at the end of the chain");
 
-#ifdef WITH_OPENSSL
+#ifdef WITH_OTHERS
     printf("%s\n", OpenSSL_version(OPENSSL_VERSION));
 #endif
     printf("best of %d rounds of %d blocks each:\n", ROUNDS, 2 * PAIRS_IN_ROUND);

@@ -23,7 +23,7 @@
  *
  *                 code    constants   stack of a call      C functions needed
  *   libcard.a     46000   1000        LIMPET_CARD_STACK    memcpy, memset
- *   libcipher.a   1420    256         LIMPET_AES128_STACK  none
+ *   libcipher.a   1286    0           LIMPET_AES128_STACK  none
  *
  * A program without a C library has to bring memcpy and memset along.
  */
@@ -92,8 +92,11 @@ uint32_t limpet_version(void);
  *   - out overlaps neither key nor block. In particular a block cannot be
  *     enciphered in place. key and block may overlap, or be the same buffer.
  *
- * No buffer has to be aligned. How long a call takes is not part of this: it
- * may depend on the bytes of key and block.
+ * No buffer has to be aligned. Which instructions a call runs, and at which
+ * addresses it reads and writes, depends on the pointers and the numbers alone
+ * and not on the bytes of key and block. That was seen in the compiled code and
+ * is not proved (tests/constant-time). How long a processor takes for the same
+ * instructions at the same addresses is its maker's matter.
  */
 uint8_t limpet_aes128(const uint8_t *key, size_t key_len,
                       const uint8_t *block, size_t block_len,

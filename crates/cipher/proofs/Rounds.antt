@@ -1,34 +1,59 @@
 -- The loop over the rounds, the copy into the output, and the ways out of the call.
 -- Assumes nothing.
-use mathlib.Core.Path.{_≡_, ap, ap₂, sym, _∙_}
+use mathlib.Core.Path.{_≡_, refl, ap, ap₂, sym, _∙_}
+use mathlib.Core.Bool.{Bool}
 use mathlib.Core.List.{List}
-use Prim.Native.Nat.{ℕ, _+_, _<_}
+use Prim.Native.Nat.{ℕ, zero, suc, _+_, _<_}
 use native.Mathlib.Nat.{le-of-eq}
 use native.Mathlib.Numerals.{add-one}
+use native.Mathlib.Omega.{arith}
+use lib.Dec.{eqb}
 use borrow.Author.Tests.{eq-eqb, ne-eqb}
 use lib.ListN.{length, getD, set, take}
 use lib.Seq.{take-suc, take-suc-set, take-all}
 use Rattle.cipher.specs.Field.{xtime, xPower}
 use Rattle.cipher.specs.AddRoundKey.{addRoundKey}
 use Rattle.cipher.specs.KeyExpansion.{keyExpansion}
-use Rattle.cipher.specs.Cipher.{roundKey, fullRound, lastRound, rounds, cipher, aes128}
+use Rattle.cipher.specs.Cipher.{roundKey, rounds, cipher, aes128}
 use Rattle.cipher.specs.Call.{outcome, output, Enciphered}
+use Rattle.cipher.proofs.States.{anyRound}
 
 -- ---- one round more, as the loop counts
 pub power-more : (n : ℕ) {rc x : ℕ} → rc ≡ xPower n → x ≡ xtime rc → x ≡ xPower (n + 1)
 unfolding xPower
 power-more n p q = rw (add-one n) (cc)
 
-pub rounds-more : (n : ℕ) (w : List (List ℕ)) (s₀ : List ℕ) {s k x : List ℕ} → s ≡ rounds w s₀ n → k ≡ roundKey w (n + 1) → x ≡ fullRound s k → x ≡ rounds w s₀ (n + 1)
-unfolding rounds
-rounds-more n w s₀ p q r = rw (add-one n) (let q′ = rw (add-one n) at q in cc)
+-- the state after the rounds 1 to n, of which the tenth is the last one
+unfoldable pub upTo : List (List ℕ) → List ℕ → ℕ → List ℕ
+upTo w s zero = s
+upTo w s (suc n) = anyRound (eqb n 9) (upTo w s n) (roundKey w (suc n))
 
-pub all-rounds : (n : ℕ) (key block : List ℕ) {k₀ s₀ s k x : List ℕ} → n ≡ 9 → k₀ ≡ roundKey (keyExpansion key) 0 → s₀ ≡ addRoundKey block k₀
-    → s ≡ rounds (keyExpansion key) s₀ n → k ≡ roundKey (keyExpansion key) (n + 1) → x ≡ lastRound s k → x ≡ aes128 key block
-unfolding aes128 cipher
-all-rounds n key block e o p q r t =
-    t
-    ∙ ap₂ lastRound (q ∙ ap₂ (rounds (keyExpansion key)) (p ∙ ap (addRoundKey block) o) e) (r ∙ ap (λ (m : ℕ). roundKey (keyExpansion key) (m + 1)) e)
+-- the round constant says which round is the last
+last-constant : (n : ℕ) → n < 10 → eqb (xPower n) 0x36 ≡ eqb n 9
+unfolding xPower
+last-constant zero h = refl
+last-constant (suc zero) h = refl
+last-constant (suc (suc zero)) h = refl
+last-constant (suc (suc (suc zero))) h = refl
+last-constant (suc (suc (suc (suc zero)))) h = refl
+last-constant (suc (suc (suc (suc (suc zero))))) h = refl
+last-constant (suc (suc (suc (suc (suc (suc zero)))))) h = refl
+last-constant (suc (suc (suc (suc (suc (suc (suc zero))))))) h = refl
+last-constant (suc (suc (suc (suc (suc (suc (suc (suc zero)))))))) h = refl
+last-constant (suc (suc (suc (suc (suc (suc (suc (suc (suc zero))))))))) h = refl
+last-constant (suc (suc (suc (suc (suc (suc (suc (suc (suc (suc n)))))))))) h = absurd (let f : ⊥ = omega arith in f)
+
+pub rounds-more : (n : ℕ) (w : List (List ℕ)) (s₀ : List ℕ) {rc : ℕ} {s k x : List ℕ} → n < 10 → rc ≡ xPower n → s ≡ upTo w s₀ n → k ≡ roundKey w (n + 1)
+    → x ≡ anyRound (eqb rc 0x36) s k → x ≡ upTo w s₀ (n + 1)
+unfolding upTo
+rounds-more n w s₀ {rc} {s} {k} h o p q r =
+    let last : eqb rc 0x36 ≡ eqb n 9 = ap (λ (c : ℕ). eqb c 0x36) o ∙ last-constant n h in
+    rw (add-one n) (let q′ = rw (add-one n) at q in r ∙ ap (λ (b : Bool). anyRound b s k) last ∙ ap₂ (anyRound (eqb n 9)) p q′)
+
+pub all-rounds : (n : ℕ) (key block : List ℕ) {k₀ s₀ s : List ℕ} → n ≡ 10 → k₀ ≡ roundKey (keyExpansion key) 0 → s₀ ≡ addRoundKey block k₀
+    → s ≡ upTo (keyExpansion key) s₀ n → s ≡ aes128 key block
+unfolding aes128 cipher rounds upTo
+all-rounds n key block e o p q = q ∙ ap₂ (upTo (keyExpansion key)) (p ∙ ap (addRoundKey block) o) e
 
 -- ---- a copy of b, as a loop makes it in out
 pub copied-more : (i : ℕ) (out b : List ℕ) → i < length out → i < length b → take i out ≡ take i b → take (i + 1) (set out i (getD b i 0)) ≡ take (i + 1) b

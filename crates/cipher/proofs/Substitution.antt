@@ -1,16 +1,12 @@
--- The table of figure 7 is the S-box: a test at each of its 256 entries, which antt computes.
+-- The S-box in fewer steps, for a test at each of the 256 bytes that antt computes.
 -- Assumes nothing.
-use mathlib.Core.Path.{_≡_, refl, sym, ap, _∙_, subst}
-use mathlib.Core.Bool.{Bool}
-use Prim.Native.Nat.{ℕ, zero, suc, _*_, _/_, _<_, _%_}
+use mathlib.Core.Path.{_≡_, refl, sym, ap, _∙_}
+use Prim.Native.Nat.{ℕ, zero, suc, _+_, _*_, _/_, _<_, _%_}
 use native.Mathlib.Nat.{mod-lt, zero-lt-suc}
-use lib.Dec.{eqb, eqb→eq, ltb, ltb→lt}
-use lib.ListN.{getD}
+use native.Mathlib.Omega.{arith}
 use lib.Bits.{bitXor, xor-comm, xor-zero-r}
 use Rattle.cipher.specs.Field.{addIf, timesBits, times}
-use Rattle.cipher.specs.SubBytes.{square, squares, inverse, affine, sbox}
-use Rattle.cipher.specs.Figure7.{sboxTable}
-use Rattle.cipher.proofs.Entries.{at}
+use Rattle.cipher.specs.SubBytes.{square, squares, inverse, affineBit, affine, sbox}
 
 -- the same products in fewer steps: `bitXor` takes a step for each digit of its first number, so the shorter goes first
 abbrev reduced : ℕ → ℕ → ℕ
@@ -50,27 +46,27 @@ quickSquares-is (suc n) a =
     quick-is (quick a a) (quickSquares n (quick a a)) ∙ ap (times (quick a a)) (quickSquares-is n (quick a a))
     ∙ ap (λ (x : ℕ). times x (squares n x)) (quick-is a a)
 
-abbrev right : ℕ → ℕ → Bool
-right k x = eqb x (affine (quickSquares 7 k))
+-- the S-box in these steps
+unfoldable pub quickSbox : ℕ → ℕ
+quickSbox a = affine (quickSquares 7 a)
 
-pub table-rule : (x : ℕ) → x < 256 → getD sboxTable x 0 ≡ sbox x
-unfolding sboxTable inverse sbox
-table-rule x h =
-    eqb→eq (getD sboxTable x 0) (affine (quickSquares 7 x)) (at right sboxTable tt x h) ∙ ap affine (quickSquares-is 7 x)
+pub quickSbox-is : (a : ℕ) → quickSbox a ≡ sbox a
+unfolding quickSbox inverse sbox
+quickSbox-is a = ap affine (quickSquares-is 7 a)
 
-small : ℕ → ℕ → Bool
-small k x = ltb x 256
-
-sbox-lt : (x : ℕ) → x < 256 → sbox x < 256
-unfolding sboxTable small
-sbox-lt x h = subst (λ (y : ℕ). y < 256) (table-rule x h) (ltb→lt (getD sboxTable x 0) 256 (at small sboxTable tt x h))
-
+-- ---- bytes
 pub low : (x : ℕ) → x % 256 < 256
 low x = mod-lt x (zero-lt-suc 255)
 
--- the S-box at the lowest byte of a number
-pub sub-lt : (x : ℕ) → sbox (x % 256) < 256
-sub-lt x = sbox-lt (x % 256) (low x)
+bit-lt : (x : ℕ) → x % 2 < 2
+bit-lt x = mod-lt x (zero-lt-suc 1)
 
-pub sub-rule : (x : ℕ) → getD sboxTable (x % 256) 0 ≡ sbox (x % 256)
-sub-rule x = table-rule (x % 256) (low x)
+weighed-lt : (a b c d e f g h : ℕ) → a < 2 → b < 2 → c < 2 → d < 2 → e < 2 → f < 2 → g < 2 → h < 2
+    → a * 1 + (b * 2 + (c * 4 + (d * 8 + (e * 16 + (f * 32 + (g * 64 + (h * 128 + 0))))))) < 256
+weighed-lt a b c d e f g h p q r s t u v w = omega arith
+
+pub sbox-lt : (x : ℕ) → sbox x < 256
+unfolding sbox
+sbox-lt x =
+    let b = affineBit (inverse x) in
+    weighed-lt (b 0) (b 1) (b 2) (b 3) (b 4) (b 5) (b 6) (b 7) (bit-lt _) (bit-lt _) (bit-lt _) (bit-lt _) (bit-lt _) (bit-lt _) (bit-lt _) (bit-lt _)

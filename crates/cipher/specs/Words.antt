@@ -1,13 +1,25 @@
--- A column of the state, or of a round key, as one number of 32 bits: its bytes, the first the lowest.
+-- A column of the state, or of a round key, as one number of 32 bits: its bytes, the first the lowest. Two columns as one of 64 bits.
 -- Assumes nothing.
 use mathlib.Core.Path.{_≡_}
 use Prim.Native.Nat.{ℕ, _+_, _*_, _/_, _%_}
-use mathlib.Core.List.{List, [], _∷_, _++_, map}
+use mathlib.Core.Bool.{Bool, cond}
+use mathlib.Core.List.{List, [], _∷_, _++_}
+use lib.Bits.{bitXor, bitAnd}
 use lib.ListN.{getD}
-use Rattle.cipher.specs.declared.Columns.{Columns}
-use Rattle.cipher.specs.SubBytes.{sbox}
+use Rattle.cipher.specs.declared.Block.{Block}
 use Rattle.cipher.specs.MixColumns.{mixColumn}
 use Rattle.cipher.specs.KeyExpansion.{xorWord, subWord, rotWord}
+
+-- four columns
+pub record Columns : Type 0 where
+  pub a : ℕ
+  pub b : ℕ
+  pub c : ℕ
+  pub d : ℕ
+
+-- two words of two columns each, the first column the lower half
+abbrev pub columns : Block → Columns
+columns s = record { a = s .lo % 4294967296; b = s .lo / 4294967296; c = s .hi % 4294967296; d = s .hi / 4294967296 }
 
 abbrev pub bytes : ℕ → List ℕ
 bytes w = w % 256 ∷ w / 256 % 256 ∷ w / 65536 % 256 ∷ w / 16777216 % 256 ∷ []
@@ -19,13 +31,7 @@ word a b c d = a + 256 * b + 65536 * c + 16777216 * d
 abbrev pub state : Columns → List ℕ
 state s = bytes (s .a) ++ (bytes (s .b) ++ (bytes (s .c) ++ bytes (s .d)))
 
--- the bytes moved on by one, two and three places
-abbrev pub turn8 : ℕ → ℕ
-turn8 w = w % 16777216 * 256 + w / 16777216
-
-abbrev pub turn16 : ℕ → ℕ
-turn16 w = w % 65536 * 65536 + w / 65536
-
+-- each byte moved one place down, the lowest to the top
 abbrev pub turn24 : ℕ → ℕ
 turn24 w = w % 256 * 16777216 + w / 256
 
@@ -33,13 +39,26 @@ turn24 w = w % 256 * 16777216 + w / 256
 abbrev pub highBits : ℕ → ℕ
 highBits w = word (w % 256 / 128) (w / 256 % 256 / 128) (w / 65536 % 256 / 128) (w / 16777216 % 256 / 128)
 
--- the S-box at the first byte of a, the second of b, the third of c and the fourth of d
-abbrev pub subDiagonal : ℕ → ℕ → ℕ → ℕ → List ℕ
-subDiagonal a b c d = sbox (a % 256) ∷ sbox (b / 256 % 256) ∷ sbox (c / 65536 % 256) ∷ sbox (d / 16777216 % 256) ∷ []
+-- the same of two columns
+abbrev pub highHalves : ℕ → ℕ
+highHalves w = highBits (w / 4294967296) * 4294967296 + highBits (w % 4294967296)
 
 -- MixColumns of a column
 abbrev pub mixWord : List ℕ → List ℕ
 mixWord w = mixColumn (getD w 0 0) (getD w 1 0) (getD w 2 0) (getD w 3 0)
+
+-- a round's work on a column after ShiftRows: MixColumns in all but the last
+abbrev pub roundColumn : Bool → List ℕ → List ℕ
+roundColumn last w = cond last (subWord w) (mixWord (subWord w))
+
+-- both columns of r are f of those of w
+pub record OnHalves (f : List ℕ → List ℕ) (w r : ℕ) : Type 0 where
+  pub first : bytes (r % 4294967296) ≡ f (bytes (w % 4294967296))
+  pub second : bytes (r / 4294967296) ≡ f (bytes (w / 4294967296))
+
+-- the bits of w where m has a 1, and else those of v
+abbrev pub merge : ℕ → ℕ → ℕ → ℕ
+merge v w m = bitXor v (bitAnd (bitXor v w) m)
 
 -- what is added to the first word of a round key, from its last word
 abbrev pub keyCore : ℕ → List ℕ → List ℕ

@@ -1,22 +1,28 @@
-// AES-128 of one block (FIPS 197), encryption. The state is four columns, and a column a word of four bytes.
+// AES-128 of one block (FIPS 197), encryption. The state is two words of two columns each, and a column four bytes.
 ghost use mathlib.Core.Path.{_≡_};
-ghost use Prim.Native.Nat.{_+_, _%_, _≤_};
+ghost use Prim.Native.Nat.{_+_, _/_, _%_, _≤_};
 ghost use mathlib.Core.List.{[], _∷_};
+ghost use lib.Dec.{eqb};
 ghost use lib.ListN.{length, getD};
 ghost use Rattle.cipher.specs.Field.{xtime};
-ghost use Rattle.cipher.specs.SubBytes.{sbox};
-ghost use Rattle.cipher.specs.Figure7.{sboxTable};
+ghost use Rattle.cipher.specs.ShiftRows.{shiftRows};
 ghost use Rattle.cipher.specs.AddRoundKey.{addRoundKey};
-ghost use Rattle.cipher.specs.Cipher.{fullRound, lastRound, aes128};
+ghost use Rattle.cipher.specs.KeyExpansion.{xorWord, subWord, rotWord};
+ghost use Rattle.cipher.specs.Cipher.{aes128};
 ghost use Rattle.cipher.specs.Call.{Enciphered};
-ghost use Rattle.cipher.specs.Words.{bytes, word, state, subDiagonal, keyCore, NextKey};
+ghost use Rattle.cipher.specs.Words.{bytes, word, columns, state, NextKey, OnHalves, merge, roundColumn};
 
-mod table;
+mod circuit;
 mod word;
 
-use table::SBOX;
+use circuit::Pair;
+use circuit::sub_pair;
+use word::high_half;
+use word::joined;
+use word::long;
+use word::low_half;
 use word::mixed;
-use word::turned24;
+use word::turned;
 use word::wide;
 use word::word_of;
 
@@ -25,84 +31,79 @@ const SERVED: u8 = 0;
 
 const BAD_LENGTH: u8 = 6;
 
-// Four columns: a state, or a round key.
-struct Columns {
-    a: u32,
-    b: u32,
-    c: u32,
-    d: u32,
+// The round constant of the last round, which tells it from the others: at a test of the count the compiler writes the round twice.
+const LAST: u8 = 0x36;
+
+// Four columns, two in a word: a state, or a round key.
+struct Block {
+    lo: u64,
+    hi: u64,
 }
 
-// The S-box at the lowest byte of w. The table is lent from the call down: a constant array is copied to the stack wherever it is named.
-fn sub(t: &[u8; 256], w: u32) -> u8
-    requires { ⌜ now t ≡ sboxTable ⌝ }
-    ensures { λ r. ⌜ r ≡ sbox (w % 256) ⌝ }
+// SubBytes of two columns, and MixColumns of them in all rounds but the last; beside it the S-box at the bytes of k.
+// It is called at two places and so stays one function in the compiled code.
+fn round_word(w: u64, k: u64, rc: u8) -> Pair
+    ensures { λ r. ⌜ OnHalves (roundColumn (eqb rc 0x36)) w (r .a) × OnHalves subWord k (r .b) ⌝ }
 {
-    t[(w % 256) as usize]
-}
-
-// SubBytes and ShiftRows: a column, from the four columns that its bytes come from.
-fn substituted(t: &[u8; 256], a: u32, b: u32, c: u32, d: u32) -> u32
-    requires { ⌜ now t ≡ sboxTable ⌝ }
-    ensures { λ r. ⌜ bytes r ≡ subDiagonal a b c d ⌝ }
-{
-    word_of(
-        sub(t, a),
-        sub(t, b / 256),
-        sub(t, c / 65536),
-        sub(t, d / 16777216),
-    )
-}
-
-fn full_round(t: &[u8; 256], s: Columns, k: Columns) -> Columns
-    requires { ⌜ now t ≡ sboxTable ⌝ }
-    ensures { λ r. ⌜ state r ≡ fullRound (state s) (state k) ⌝ }
-{
-    let a = mixed(substituted(t, s.a, s.b, s.c, s.d));
-    let b = mixed(substituted(t, s.b, s.c, s.d, s.a));
-    let c = mixed(substituted(t, s.c, s.d, s.a, s.b));
-    let d = mixed(substituted(t, s.d, s.a, s.b, s.c));
-    add_key(Columns { a, b, c, d }, k)
-}
-
-fn last_round(t: &[u8; 256], s: Columns, k: Columns) -> Columns
-    requires { ⌜ now t ≡ sboxTable ⌝ }
-    ensures { λ r. ⌜ state r ≡ lastRound (state s) (state k) ⌝ }
-{
-    let a = substituted(t, s.a, s.b, s.c, s.d);
-    let b = substituted(t, s.b, s.c, s.d, s.a);
-    let c = substituted(t, s.c, s.d, s.a, s.b);
-    let d = substituted(t, s.d, s.a, s.b, s.c);
-    add_key(Columns { a, b, c, d }, k)
-}
-
-fn add_key(s: Columns, k: Columns) -> Columns
-    ensures { λ r. ⌜ state r ≡ addRoundKey (state s) (state k) ⌝ }
-{
-    Columns {
-        a: s.a ^ k.a,
-        b: s.b ^ k.b,
-        c: s.c ^ k.c,
-        d: s.d ^ k.d,
+    let t = sub_pair(w, k);
+    if rc != LAST {
+        let a = mixed(t.a);
+        Pair { a, b: t.b }
+    } else {
+        t
     }
 }
 
-fn key_core(t: &[u8; 256], w: u32, rc: u8) -> u32
-    requires { ⌜ now t ≡ sboxTable ⌝ }
-    ensures { λ r. ⌜ bytes r ≡ keyCore rc (bytes w) ⌝ }
+// The bits of b where m has a 1, and else those of a.
+fn merged(a: u64, b: u64, m: u64) -> u64
+    ensures { λ r. ⌜ r ≡ merge a b m ⌝ }
 {
-    turned24(substituted(t, w, w, w, w)) ^ wide(rc)
+    a ^ ((a ^ b) & m)
 }
 
-fn next_key(t: &[u8; 256], k: Columns, rc: u8) -> Columns
-    requires { ⌜ now t ≡ sboxTable ⌝ }
-    ensures { λ r. ⌜ NextKey rc k r ⌝ }
+// The second column of a, and the first of b.
+fn between(a: u64, b: u64) -> u64
+    ensures { λ r. ⌜ (r % 4294967296 ≡ a / 4294967296) × (r / 4294967296 ≡ b % 4294967296) ⌝ }
 {
-    let a = k.a ^ key_core(t, k.d, rc);
-    let b = k.b ^ a;
-    let c = k.c ^ b;
-    let d = k.d ^ c;
-    Columns { a, b, c, d }
+    b % 4294967296 * 4294967296 + a / 4294967296
+}
+
+// ShiftRows: the rows 2 and 3 go two columns, then the rows 1 and 3 one.
+fn shifted(s: Block) -> Block
+    ensures { λ r. ⌜ state (columns r) ≡ shiftRows (state (columns s)) ⌝ }
+{
+    let a = merged(s.lo, s.hi, 0xffff0000ffff0000);
+    let b = merged(s.hi, s.lo, 0xffff0000ffff0000);
+    let lo = merged(a, between(a, b), 0xff00ff00ff00ff00);
+    let hi = merged(b, between(b, a), 0xff00ff00ff00ff00);
+    Block { lo, hi }
+}
+
+fn add_key(s: Block, k: Block) -> Block
+    ensures { λ r. ⌜ state (columns r) ≡ addRoundKey (state (columns s)) (state (columns k)) ⌝ }
+{
+    Block {
+        lo: s.lo ^ k.lo,
+        hi: s.hi ^ k.hi,
+    }
+}
+
+// What is added to the first column of a round key, from t, whose first column is the S-box at the last one.
+fn key_core(t: u64, rc: u8) -> u32
+    ensures { λ r. ⌜ bytes r ≡ xorWord (rotWord (bytes (t % 4294967296))) (rc ∷ 0 ∷ 0 ∷ 0 ∷ []) ⌝ }
+{
+    low_half(turned(t)) ^ wide(rc)
+}
+
+fn next_key(k: Block, t: u64, rc: u8) -> Block
+    requires { ⌜ OnHalves subWord (k .hi / 4294967296) t ⌝ }
+    ensures { λ r. ⌜ NextKey rc (columns k) (columns r) ⌝ }
+{
+    let l = k.lo ^ long(key_core(t, rc));
+    let lo = l ^ (l % 4294967296 * 4294967296);
+    let h = k.hi ^ (lo / 4294967296);
+    let hi = h ^ (h % 4294967296 * 4294967296);
+    Block { lo, hi }
 }
 
 // The next round constant.
@@ -112,22 +113,25 @@ fn times_x(x: u8) -> u8
     (x << 1) ^ ((x >> 7) * 0x1b)
 }
 
-fn enciphered(t: &[u8; 256], key: Columns, block: Columns) -> Columns
-    requires { ⌜ now t ≡ sboxTable ⌝ }
-    ensures { λ r. ⌜ state r ≡ aes128 (state key) (state block) ⌝ }
+fn enciphered(key: Block, block: Block) -> Block
+    ensures { λ r. ⌜ state (columns r) ≡ aes128 (state (columns key)) (state (columns block)) ⌝ }
 {
     let mut s = add_key(block, key);
     let mut k = key;
     let mut rc: u8 = 1;
-    for n in 0usize..9 {
-        let next = next_key(t, k, rc);
-        let after = full_round(t, s, next);
+    for n in 0usize..10 {
+        let t = shifted(s);
+        let x = round_word(t.lo, k.hi / 4294967296, rc);
+        let y = round_word(t.hi, 0, rc);
+        let next = next_key(k, x.b, rc);
+        let lo = x.a;
+        let hi = y.a;
+        let after = add_key(Block { lo, hi }, next);
         rc = times_x(rc);
         k = next;
         s = after;
     }
-    let last = next_key(t, k, rc);
-    last_round(t, s, last)
+    s
 }
 
 fn column_at(s: &[u8], i: usize) -> u32
@@ -137,37 +141,39 @@ fn column_at(s: &[u8], i: usize) -> u32
     word_of(s[i], s[i + 1], s[i + 2], s[i + 3])
 }
 
-fn columns_of(s: &[u8]) -> Columns
+fn loaded(s: &[u8]) -> Block
     requires { ⌜ length (now s) ≡ 16 ⌝ }
-    ensures { λ r. ⌜ state r ≡ now (s .entry) ⌝ }
+    ensures { λ r. ⌜ state (columns r) ≡ now (s .entry) ⌝ }
 {
-    let a = column_at(s, 0);
-    let b = column_at(s, 4);
-    let c = column_at(s, 8);
-    let d = column_at(s, 12);
-    Columns { a, b, c, d }
+    let lo = joined(column_at(s, 0), column_at(s, 4));
+    let hi = joined(column_at(s, 8), column_at(s, 12));
+    Block { lo, hi }
 }
 
-fn bytes_of(s: Columns) -> [u8; 16]
-    ensures { λ r. ⌜ r ≡ state s ⌝ }
+fn bytes_of(s: Block) -> [u8; 16]
+    ensures { λ r. ⌜ r ≡ state (columns s) ⌝ }
 {
+    let a = low_half(s.lo);
+    let b = high_half(s.lo);
+    let c = low_half(s.hi);
+    let d = high_half(s.hi);
     [
-        (s.a % 256) as u8,
-        (s.a / 256 % 256) as u8,
-        (s.a / 65536 % 256) as u8,
-        (s.a / 16777216 % 256) as u8,
-        (s.b % 256) as u8,
-        (s.b / 256 % 256) as u8,
-        (s.b / 65536 % 256) as u8,
-        (s.b / 16777216 % 256) as u8,
-        (s.c % 256) as u8,
-        (s.c / 256 % 256) as u8,
-        (s.c / 65536 % 256) as u8,
-        (s.c / 16777216 % 256) as u8,
-        (s.d % 256) as u8,
-        (s.d / 256 % 256) as u8,
-        (s.d / 65536 % 256) as u8,
-        (s.d / 16777216 % 256) as u8,
+        (a % 256) as u8,
+        (a / 256 % 256) as u8,
+        (a / 65536 % 256) as u8,
+        (a / 16777216 % 256) as u8,
+        (b % 256) as u8,
+        (b / 256 % 256) as u8,
+        (b / 65536 % 256) as u8,
+        (b / 16777216 % 256) as u8,
+        (c % 256) as u8,
+        (c / 256 % 256) as u8,
+        (c / 65536 % 256) as u8,
+        (c / 16777216 % 256) as u8,
+        (d % 256) as u8,
+        (d / 256 % 256) as u8,
+        (d / 65536 % 256) as u8,
+        (d / 16777216 % 256) as u8,
     ]
 }
 
@@ -175,7 +181,7 @@ fn block_of(key: &[u8], block: &[u8]) -> [u8; 16]
     requires { ⌜ (length (now key) ≡ 16) × (length (now block) ≡ 16) ⌝ }
     ensures { λ r. ⌜ r ≡ aes128 (now (key .entry)) (now (block .entry)) ⌝ }
 {
-    bytes_of(enciphered(&SBOX, columns_of(key), columns_of(block)))
+    bytes_of(enciphered(loaded(key), loaded(block)))
 }
 
 // The block enciphered under the key, by value.

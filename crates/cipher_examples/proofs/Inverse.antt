@@ -6,15 +6,14 @@ use Prim.Native.Nat.{ℕ, _<_}
 use lib.Dec.{eqb, eqb→eq}
 use Rattle.cipher.specs.Field.{times}
 use Rattle.cipher.specs.SubBytes.{square, squares, inverse}
-use Rattle.cipher.specs.Figure7.{sboxTable}
 use Rattle.cipher.proofs.Entries.{at}
 
-inverts : ℕ → ℕ → Bool
-inverts a x = eqb (times a (inverse a)) (cond (eqb a 0) 0 1)
+inverts : ℕ → Bool
+inverts a = eqb (times a (inverse a)) (cond (eqb a 0) 0 1)
 
 pub product-one : (a : ℕ) → a < 256 → times a (inverse a) ≡ cond (eqb a 0) 0 1
-unfolding inverts sboxTable square squares inverse
-product-one a h = eqb→eq (times a (inverse a)) (cond (eqb a 0) 0 1) (at inverts sboxTable tt a h)
+unfolding inverts square squares inverse
+product-one a h = eqb→eq (times a (inverse a)) (cond (eqb a 0) 0 1) (at inverts 256 tt a h)
 
 pub zero-itself : inverse 0 ≡ 0
 unfolding square squares inverse

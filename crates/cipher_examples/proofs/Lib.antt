@@ -1,2 +1,3 @@
 pub mod Examples
+pub mod Figure7
 pub mod Inverse

@@ -3,35 +3,46 @@
 use Prim.Native.Nat.{_≤_, _-_}
 use mathlib.Core.Path.{_≡_}
 use native.Mathlib.Omega.{arith}
+use lib.Dec.{eqb}
 use borrow.Author.Needs.{needs}
 use Rattle.cipher.specs.Field.{xPower}
 use Rattle.cipher.specs.KeyExpansion.{keyExpansion}
-use Rattle.cipher.specs.Cipher.{rounds}
-use Rattle.cipher.specs.Words.{state}
+use Rattle.cipher.specs.Words.{columns, state}
 use Rattle.cipher.proofs.Keys.{IsRoundKey, key-itself, as-state, next-round}
-use Rattle.cipher.proofs.Rounds.{power-more, rounds-more, all-rounds}
+use Rattle.cipher.proofs.Halves.{whole-round}
+use Rattle.cipher.proofs.Rounds.{upTo, power-more, rounds-more, all-rounds}
 use Rattle.cipher.proofs.enciphered.Statement.{statement}
 use Rattle.cipher.proofs.enciphered.Tie as tie
 
 abbrev Inv-loop : tie.InvT-loop
-Inv-loop t s₀ k₀ rc₀ n₀ s k rc n =
-    (n ≤ 9) × (rc ≡ xPower n) × IsRoundKey (keyExpansion (state k₀)) n k × (state s ≡ rounds (keyExpansion (state k₀)) (state s₀) n)
+Inv-loop s₀ k₀ rc₀ n₀ s k rc n =
+    (n ≤ 10) × (rc ≡ xPower n) × IsRoundKey (keyExpansion (state (columns k₀))) n (columns k)
+    × (state (columns s) ≡ upTo (keyExpansion (state (columns k₀))) (state (columns s₀)) n)
 
 abbrev μ-loop : tie.MeasureT-loop
-μ-loop t s₀ k₀ rc₀ n₀ s k rc n = 9 - n
+μ-loop s₀ k₀ rc₀ n₀ s k rc n = 10 - n
 
 add-key-requires : tie.Need-add-key-requires Inv-loop μ-loop
 add-key-requires c κs = search needs
 
 loop-holds : tie.Need-loop-holds Inv-loop μ-loop
-unfolding xPower rounds
-loop-holds c = (omega arith, search needs, key-itself (c .before .args .key), search needs)
+unfolding xPower upTo
+loop-holds c = (omega arith, search needs, key-itself (columns (c .before .args .key)), search needs)
+
+shifted-requires : tie.Need-shifted-requires Inv-loop μ-loop
+shifted-requires c κs = search needs
+
+round-word-requires : tie.Need-round-word-requires Inv-loop μ-loop
+round-word-requires c κs = search needs
+
+round-word-requires-2 : tie.Need-round-word-requires-2 Inv-loop μ-loop
+round-word-requires-2 c κs = search needs
 
 next-key-requires : tie.Need-next-key-requires Inv-loop μ-loop
-next-key-requires c κs = search needs
+next-key-requires c κs = c .before .round-word .ensures .1
 
-full-round-requires : tie.Need-full-round-requires Inv-loop μ-loop
-full-round-requires c κs = search needs
+add-key-requires-2 : tie.Need-add-key-requires-2 Inv-loop μ-loop
+add-key-requires-2 c κs = search needs
 
 times-x-requires : tie.Need-times-x-requires Inv-loop μ-loop
 times-x-requires c κs = search needs
@@ -44,43 +55,33 @@ loop-less c = omega arith
 
 loop-again : tie.Need-loop-again Inv-loop μ-loop
 loop-again c =
-    let at = c .before .before .before .before in
-    let key = state (at .before .before .args .key) in
+    let after = c .before in
+    let keyed = after .before in
+    let words = keyed .before .before in
+    let turned = words .before .before in
+    let at = turned .before .before in
+    let key = state (columns (at .before .before .args .key)) in
     let n = at .loop .n in
     let inv = at .loop .inv in
-    let next = next-round key n (at .loop .k) (c .before .before .next-key .result) (omega arith) (inv .2) (rw (inv .1) at (c .before .before .next-key .ensures)) in
-    (omega arith, power-more n (inv .1) (c .times-x .ensures), next, rounds-more n (keyExpansion key) _ (inv .3) (as-state next) (c .before .full-round .ensures))
-
-next-key-requires-2 : tie.Need-next-key-requires-2 Inv-loop μ-loop
-next-key-requires-2 c κs = search needs
-
-last-round-requires : tie.Need-last-round-requires Inv-loop μ-loop
-last-round-requires c κs = search needs
+    let next =
+    next-round key n (columns (at .loop .k)) (columns (keyed .next-key .result)) (omega arith) (inv .2) (rw (inv .1) at (keyed .next-key .ensures)) in
+    let round =
+    whole-round (eqb (at .loop .rc) 0x36) (at .loop .s) (keyed .next-key .result) (turned .shifted .result) _ (after .add-key2 .result)
+    (turned .shifted .ensures) (words .round-word .ensures .0) (keyed .before .round-word2 .ensures .0) (after .add-key2 .ensures) in (
+      omega arith,
+      power-more n (inv .1) (c .times-x .ensures),
+      next,
+      rounds-more n (keyExpansion key) _ (omega arith) (inv .1) (inv .3) (as-state next) round,
+    )
 
 returns : tie.Need-returns Inv-loop μ-loop
 returns c =
-    let at = c .before .before .before in
+    let at = c .before in
     let args = at .before .before .args in
-    let n = at .loop .n in
-    let inv = at .loop .inv in
-    let next = next-round (state (args .key)) n (at .loop .k) (c .before .next-key2 .result) (omega arith) (inv .2) (rw (inv .1) at (c .before .next-key2 .ensures)) in
-    all-rounds n (state (args .key)) (state (args .block)) (omega arith) (as-state (key-itself (args .key))) (at .before .add-key .ensures) (inv .3) (as-state next)
-    (c .last-round .ensures)
+    all-rounds (at .loop .n) (state (columns (args .key))) (state (columns (args .block))) (omega arith)
+    (as-state (key-itself (columns (args .key)))) (at .before .add-key .ensures) (at .loop .inv .3)
 
 pub enciphered-spec : {M : Type 1} → statement M
 enciphered-spec =
     tie.close
-    (tie.spec
-    Inv-loop
-    μ-loop
-    add-key-requires
-    loop-holds
-    next-key-requires
-    full-round-requires
-    times-x-requires
-    add-n
-    loop-less
-    loop-again
-    next-key-requires-2
-    last-round-requires
-    returns)
+    (tie.spec Inv-loop μ-loop add-key-requires loop-holds shifted-requires round-word-requires round-word-requires-2 next-key-requires add-key-requires-2 times-x-requires add-n loop-less loop-again returns)
