@@ -38,13 +38,13 @@ extern "C" {
 #endif
 
 /*
- * The version of the card that this header describes. It rises by one with each
- * change of what the card does, which the size of a card need not show. Compare
- * it once, at the start:
+ * The version of the library that this header describes. It rises by one with
+ * each change of the card or the cipher, which the size of a card need not show.
+ * Compare it once, at the start:
  *
  *   if (limpet_version() != LIMPET_VERSION) ... header and library do not match
  */
-#define LIMPET_VERSION 3
+#define LIMPET_VERSION 4
 
 uint32_t limpet_version(void);
 
