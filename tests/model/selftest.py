@@ -875,11 +875,13 @@ class History:
             self.events.append(("user", "reload"))
 
 
-class Lists:
-    """The 2C files of a card as plain lists of records, beside the bytes that the model keeps.
+class Beside:
+    """The files of one type, by SFI, in a plainer form beside the bytes that the model keeps.
 
-    Answers up to the right are taken as they come; what follows from the records is worked out from the list alone.
+    Answers up to the right are taken as they come; what follows from the contents is worked out from the plain form alone.
     """
+
+    kind = words = None  # the file type, and the word that the names of its commands have in common
 
     def __init__(self):
         self.files = {}
@@ -899,21 +901,33 @@ class Lists:
         if frame is None:
             return
         name = next(name for cla, ins, name, _ in cards.LIST if (cla, ins) == (sent[0], sent[1]))
-        if name == "CREATE FILE" and sw == 0x9000 and frame.data[0] == 0x2C:
-            self.files[frame.p2 & 0x1F] = (frame.data[1] << 8 | frame.data[2], [])
-        if "RECORD" not in name or frame.case != (2 if name == "READ RECORD" else 3):
+        if name == "CREATE FILE" and sw == 0x9000 and frame.data[0] == self.kind:
+            self.files[frame.p2 & 0x1F] = self.created(frame.data[1] << 8 | frame.data[2])
+        if self.words not in name or frame.case != (2 if name.startswith("READ") else 3):
             return
         # Without SFI the current file is meant, which the command did not change.
-        sfi = frame.p2 >> 3 or program.card.current.sfi
+        sfi = self.sfi_of(frame) or program.card.current.sfi
         if sfi not in self.files:
             return
-        expected = self.expected(name, frame, *self.files[sfi])
+        expected = self.expected(name, frame, sfi)
         self.compared += 1
         if expected != (data, sw):
             self.disagreements.append((line, expected, (data, sw)))
 
-    @staticmethod
-    def expected(name, frame, space, records):
+
+class Lists(Beside):
+    """The 2C files of a card as plain lists of records, each with its space."""
+
+    kind, words = 0x2C, "RECORD"
+
+    def created(self, space):
+        return space, []
+
+    def sfi_of(self, frame):
+        return frame.p2 >> 3
+
+    def expected(self, name, frame, sfi):
+        space, records = self.files[sfi]
         if name == "APPEND RECORD":
             if len(frame.data) > 178:
                 return b"", 0x6700
@@ -932,49 +946,26 @@ class Lists:
         return b"", 0x9000
 
 
-class Contents:
-    """The binary files of a card as plain bytes, beside the area that the model keeps.
+class Contents(Beside):
+    """The binary files of a card as plain bytes."""
 
-    Answers up to the right are taken as they come; what follows from offset and length is worked out from the bytes alone.
-    """
+    kind, words = 0x28, "BINARY"
+    to_end = 0  # reads with Le 00 that met the end of the file
 
-    def __init__(self):
-        self.files = {}
-        self.compared = 0
-        self.to_end = 0
-        self.disagreements = []
+    def created(self, size):
+        return bytes(size)
 
-    def watch(self, program, line, answer):
-        outcome, data, sw = answer
-        if outcome != 0:
-            return
-        if line.startswith(b"ISSUE"):
-            self.files = {}
-        if sw is None or sw in (0x6A86, 0x6A82, 0x6981, 0x6982, 0x6D00, 0x6E00):
-            return
-        sent = script.bytes_of(line.split(b"\t")[1])
-        frame = cards.frame_of(sent)
-        if frame is None:
-            return
-        name = next(name for cla, ins, name, _ in cards.LIST if (cla, ins) == (sent[0], sent[1]))
-        if name == "CREATE FILE" and sw == 0x9000 and frame.data[0] == 0x28:
-            self.files[frame.p2 & 0x1F] = bytes(frame.data[1] << 8 | frame.data[2])
-        if "BINARY" not in name or frame.case != (2 if name == "READ BINARY" else 3):
-            return
-        # Without SFI the current file is meant, which the command did not change.
-        sfi, offset = (frame.p1 & 0x1F, frame.p2) if frame.p1 & 0x80 else (program.card.current.sfi, frame.p1 << 8 | frame.p2)
-        expected = self.expected(name, frame, sfi, offset)
-        self.compared += 1
-        self.to_end += name == "READ BINARY" and sw == 0x9000 and frame.le == 256 and len(data) < 256
-        if expected != (data, sw):
-            self.disagreements.append((line, expected, (data, sw)))
+    def sfi_of(self, frame):
+        return frame.p1 & 0x1F if frame.p1 & 0x80 else 0
 
-    def expected(self, name, frame, sfi, offset):
+    def expected(self, name, frame, sfi):
+        offset = frame.p2 if frame.p1 & 0x80 else frame.p1 << 8 | frame.p2
         before, rest = self.files[sfi][:offset], self.files[sfi][offset:]
         if rest == b"":
             return b"", 0x6A84
         if name == "READ BINARY":
             shown = rest[:frame.le]
+            self.to_end += frame.le == 256 and len(shown) < 256
             return (shown, 0x9000) if len(shown) == frame.le or frame.le == 256 else (b"", 0x6700)
         if len(frame.data) > len(rest):
             return b"", 0x6700
