@@ -6,15 +6,14 @@
  * a card is taken to be as large as the library says, no card is reset, and
  * cards that cannot be made are left out.
  */
-#define _POSIX_C_SOURCE 200809L
-
 #include <stdbool.h>
 #include <stdio.h>
 #include <stdlib.h>
 #include <string.h>
-#include <time.h>
 
+#include "fips.h"
 #include "limpetnook.h"
+#include "measure.h"
 
 enum { CARD_ROOM = 1024, LONGEST_COMMAND = 300, CALLS = 2000, MOST_RECORDS = LIMPET_AREA_SIZE / 2, AREAS = 64 };
 
@@ -25,24 +24,14 @@ static uint8_t reply[LIMPET_REPLY_SIZE];
 static size_t reply_count;
 static bool is_once;
 
-static void usage(FILE *to)
-{
-    fputs("usage: notes ROUNDS\n"
-          "       notes --once\n"
-          "\n"
-          "Gives cards in place one command each, 2,000 times in each of ROUNDS rounds (1 to\n"
-          "999), and prints for each how many calls a second the fastest round had.\n"
-          "--once: prints a line for each call of limpet_command, for callgrind to count; the\n"
-          "calls that make a card have the line \"making\".\n", to);
-}
-
-static double now(void)
-{
-    struct timespec t;
-
-    clock_gettime(CLOCK_MONOTONIC, &t);
-    return (double)t.tv_sec + 1e-9 * (double)t.tv_nsec;
-}
+static const char usage[] =
+    "usage: notes ROUNDS\n"
+    "       notes --once\n"
+    "\n"
+    "Gives cards in place one command each, 2,000 times in each of ROUNDS rounds (1 to\n"
+    "999), and prints for each how many calls a second the fastest round had.\n"
+    "--once: prints a line for each call of limpet_command, for callgrind to count; the\n"
+    "calls that make a card have the line \"making\".\n";
 
 struct bytes {
     uint8_t at[LONGEST_COMMAND];
@@ -66,12 +55,8 @@ static struct bytes read_command(const char *digits, size_t more)
 /* The status word, or 0 where the call was not served. */
 static unsigned give(const struct bytes *command)
 {
-    /* FIPS 197 C.1: under the key 00 01 .. 0F this block is enciphered to the cryptogram of log_in. */
-    static const uint8_t random_input[LIMPET_RANDOM_SIZE] = {
-        0x00, 0x11, 0x22, 0x33, 0x44, 0x55, 0x66, 0x77, 0x88, 0x99, 0xAA, 0xBB, 0xCC, 0xDD, 0xEE, 0xFF
-    };
     uint8_t outcome = limpet_command((struct limpet_card *)card, area, LIMPET_AREA_SIZE, command->at, command->length,
-                                     random_input, sizeof random_input, reply, sizeof reply, &reply_count);
+                                     c1_block, sizeof c1_block, reply, sizeof reply, &reply_count);
 
     return outcome == LIMPET_OK ? 256u * reply[reply_count - 2] + reply[reply_count - 1] : 0;
 }
@@ -101,16 +86,16 @@ static void make(const char *digits, size_t more)
 
 static void issue(void)
 {
-    static const uint8_t key[LIMPET_KEY_SIZE] = { 0, 1, 2, 3, 4, 5, 6, 7, 8, 9, 10, 11, 12, 13, 14, 15 };
     static const uint8_t pin[] = { '1', '2', '3', '4', '5', '6' };
 
-    if (limpet_issue((struct limpet_card *)card, area, LIMPET_AREA_SIZE, key, sizeof key, 128,
+    if (limpet_issue((struct limpet_card *)card, area, LIMPET_AREA_SIZE, c1_key, sizeof c1_key, 128,
                      pin, sizeof pin, 5, pin, sizeof pin, 3) != LIMPET_OK) {
         fprintf(stderr, "notes: a good order is refused\n");
         exit(EXIT_FAILURE);
     }
 }
 
+/* With the cryptogram of FIPS 197 C.1. */
 static void log_in(void)
 {
     issue();
@@ -268,16 +253,8 @@ static void with_mixed_notes(int rounds)
 
 int main(int count, char **arguments)
 {
-    if (count == 2 && strcmp(arguments[1], "--help") == 0) {
-        usage(stdout);
-        return EXIT_SUCCESS;
-    }
     is_once = count == 2 && strcmp(arguments[1], "--once") == 0;
-    int rounds = is_once ? 1 : count == 2 ? atoi(arguments[1]) : 0;
-    if (rounds < 1 || rounds > 999) {
-        usage(stderr);
-        return 2;
-    }
+    int rounds = is_once ? 1 : read_rounds(count, arguments, usage);
     if (limpet_card_size() > CARD_ROOM) {
         fprintf(stderr, "notes: a card takes more than %d bytes\n", CARD_ROOM);
         return EXIT_FAILURE;

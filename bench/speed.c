@@ -9,12 +9,9 @@
  *
  * With WITH_OTHERS defined, openssl's and BearSSL's are among them.
  */
-#define _POSIX_C_SOURCE 200809L /* clock_gettime */
-
 #include <stdio.h>
 #include <stdlib.h>
 #include <string.h>
-#include <time.h>
 
 #ifdef WITH_OTHERS
 #define OPENSSL_SUPPRESS_DEPRECATED /* AES_encrypt: the plain call, with no layers over it */
@@ -23,7 +20,9 @@
 #include <openssl/crypto.h>
 #endif
 
+#include "fips.h"
 #include "limpetnook.h"
+#include "measure.h"
 
 enum { SIZE = LIMPET_AES128_SIZE, ROUNDS = 25, PAIRS_IN_ROUND = 25000 };
 
@@ -97,26 +96,19 @@ static struct contender {
 
 enum { CONTENDERS = sizeof contenders / sizeof contenders[0] };
 
-static double nanoseconds(void)
-{
-    struct timespec t;
-    clock_gettime(CLOCK_MONOTONIC, &t);
-    return 1e9 * (double)t.tv_sec + (double)t.tv_nsec;
-}
-
-/* Two buffers in turn: an output is the next input where it stands. */
+/* ns a block. Two buffers in turn: an output is the next input where it stands. */
 static double run_chain(struct contender *c, const uint8_t *key, const uint8_t *block, int pairs)
 {
     uint8_t a[SIZE], b[SIZE];
     memcpy(a, block, SIZE);
-    double from = nanoseconds();
+    double from = now();
     for (int i = 0; i < pairs; i++) {
         c->encipher(key, a, b);
         c->encipher(key, b, a);
     }
-    double to = nanoseconds();
+    double took = now() - from;
     memcpy(c->last, a, SIZE);
-    return (to - from) / (2.0 * pairs);
+    return 1e9 * took / (2.0 * pairs);
 }
 
 static void print_hex(const uint8_t *bytes)
@@ -140,14 +132,8 @@ static void expect_same_last_block(const char *when)
 
 int main(void)
 {
-    uint8_t key[SIZE], block[SIZE];
-    for (int i = 0; i < SIZE; i++) {
-        key[i] = (uint8_t)i;
-        block[i] = (uint8_t)(0x11 * i);
-    }
-
     for (int i = 0; i < CONTENDERS; i++)
-        contenders[i].encipher(key, block, contenders[i].last);
+        contenders[i].encipher(c1_key, c1_block, contenders[i].last);
     expect_same_last_block("on FIPS 197 C.1");
     printf("all give ");
     print_hex(contenders[0].last);
@@ -155,7 +141,7 @@ int main(void)
 
     for (int round = 0; round < ROUNDS; round++)
         for (int i = 0; i < CONTENDERS; i++) {
-            double time = run_chain(&contenders[i], key, block, PAIRS_IN_ROUND);
+            double time = run_chain(&contenders[i], c1_key, c1_block, PAIRS_IN_ROUND);
             if (round == 0 || time < contenders[i].best)
                 contenders[i].best = time;
         }

@@ -9,23 +9,20 @@
  * at the same time, from several threads or from an interrupt, as long as
  * nothing else writes a buffer of a running call or reads its output.
  *
- * What to link:
+ * What to link: target/staticlib/liblimpetnook.a, which has all that is
+ * declared here. `rt staticlib limpetnook` makes it. It is for x86-64 with the
+ * System V calling convention (Linux), on whichever machine it is built; the kit
+ * makes it for no other processor.
  *
- *   limpet_aes128                       libcipher.a   rt staticlib cipher
- *   all else that is declared here      libcard.a     rt staticlib card
+ * What is taken at most, measured and not proved (tests/footprint):
  *
- * Both go into target/staticlib, and both may be linked into one program. They
- * are for x86-64 with the System V calling convention (Linux), on whichever
- * machine they are built; the kit makes them for no other processor.
+ *                     code    constants   stack of a call      C functions needed
+ *   liblimpetnook.a   48000   1000        LIMPET_CARD_STACK    memcpy, memset
+ *   limpet_aes128     1335    0           LIMPET_AES128_STACK  none
  *
- * What they take at most, measured and not proved (bench/footprint, which the
- * tests run):
- *
- *                 code    constants   stack of a call      C functions needed
- *   libcard.a     46000   1000        LIMPET_CARD_STACK    memcpy, memset
- *   libcipher.a   1286    0           LIMPET_AES128_STACK  none
- *
- * A program without a C library has to bring memcpy and memset along.
+ * The second row is for a program that calls limpet_aes128 alone and is linked
+ * with --gc-sections: each function is in a section of its own. A program
+ * without a C library has to bring along what is needed of it.
  */
 #ifndef LIMPETNOOK_H
 #define LIMPETNOOK_H
@@ -44,7 +41,7 @@ extern "C" {
  *
  *   if (limpet_version() != LIMPET_VERSION) ... header and library do not match
  */
-#define LIMPET_VERSION 4
+#define LIMPET_VERSION 5
 
 uint32_t limpet_version(void);
 
@@ -126,7 +123,7 @@ struct limpet_card;
  *
  * once limpet_version() was seen to be LIMPET_VERSION.
  */
-#define LIMPET_CARD_SIZE 254
+#define LIMPET_CARD_SIZE 255
 
 size_t limpet_card_size(void);
 

@@ -14,12 +14,12 @@ bool card_fits(void)
     return limpet_version() == LIMPET_VERSION && limpet_card_size() == LIMPET_CARD_SIZE;
 }
 
-uint8_t card_issue(const struct issue *v)
+uint8_t card_issue(const struct line *l)
 {
     return limpet_issue(card(), area, sizeof area,
-                        v->key.at, v->key.len, v->device_limit,
-                        v->admin_pin.at, v->admin_pin.len, v->admin_limit,
-                        v->user_pin.at, v->user_pin.len, v->user_limit);
+                        l->key.at, l->key.len, l->device_limit,
+                        l->admin_pin.at, l->admin_pin.len, l->admin_limit,
+                        l->user_pin.at, l->user_pin.len, l->user_limit);
 }
 
 uint8_t card_reset(void)

@@ -7,21 +7,10 @@
 #include <stdint.h>
 
 #include "limpetnook.h"
+#include "lines.h"
 
-/* A run of bytes that somebody else keeps. */
-struct bytes {
-    const uint8_t *at;
-    size_t len;
-};
-
-/* What a card is issued with. Whether the values are good is the card's to say. */
-struct issue {
-    struct bytes key, admin_pin, user_pin;
-    uint16_t device_limit, admin_limit, user_limit;
-};
-
-/* Each returns the outcome of the call, 0 where it was served. */
-uint8_t card_issue(const struct issue *values);
+/* Each returns the outcome of the call, 0 where it was served. Whether the values of an ISSUE line are good is the card's to say. */
+uint8_t card_issue(const struct line *l);
 uint8_t card_reset(void);
 
 /* random: 16 bytes. reply has room for LIMPET_REPLY_SIZE bytes; *count is how many of them are the answer. */

@@ -1,11 +1,10 @@
-/* Document 01's script lines, as far as they make and prepare a card. */
+/* Scripts, as far as they make and prepare a card. */
 #ifndef READER_SCRIPT_H
 #define READER_SCRIPT_H
 
 #include <stdbool.h>
 
-/* ISSUE's fields behind the word: key, limit, admin PIN, limit, user PIN, limit. */
-#define ISSUE_FIELDS 6
+#include "lines.h"
 
 /* Issues the card with values that are written as on an ISSUE line. Says why where it cannot. */
 bool issue_words(char *const words[ISSUE_FIELDS]);

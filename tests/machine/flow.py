@@ -282,7 +282,8 @@ class Walk:
         args = operands(text)
         ways = [] if after is None else [after]
 
-        if mnemonic == "endbr64" or re.match(r"((data16|cs) )*nop[wl]?\b", mnemonic + " " + text):
+        # The nop of two bytes is shown as an exchange of a register with itself.
+        if mnemonic == "endbr64" or re.match(r"((data16|cs) )*nop[wl]?\b|xchg +%ax,%ax$", mnemonic + " " + text):
             return ways
         if mnemonic == "ret":
             at = state.registers["rsp"]

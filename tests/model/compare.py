@@ -15,7 +15,7 @@ import time
 import generate
 import script
 
-X86 = os.path.join(os.path.dirname(os.path.abspath(__file__)), "..", "..", "bench", "x86")
+X86 = os.path.join(os.path.dirname(os.path.abspath(__file__)), "..", "..", "tools", "x86", "run")
 SECONDS_TO_RUN = 120
 SECONDS_TO_SHRINK = 90
 # Differences mostly have one cause, so the first few are shrunk and the rest only named.

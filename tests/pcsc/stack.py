@@ -14,7 +14,7 @@ import tempfile
 import time
 
 ROOT = os.path.dirname(os.path.dirname(os.path.dirname(os.path.abspath(__file__))))
-X86 = os.path.join(ROOT, "bench", "x86")  # runs the reader's program on this machine
+X86 = os.path.join(ROOT, "tools", "x86", "run")  # runs the reader's program on this machine
 READER = os.path.join(ROOT, "target", "reader", "limpet-reader")
 UNSERVED = os.path.join(ROOT, "target", "reader", "unserved")  # the same over unserved.c
 SECONDS = 20  # how long anything may take before it counts as not coming

@@ -34,24 +34,19 @@ module _ {served : Bool} {xs : List ℕ} {at : ℕ} {ys l l′ : List ℕ} where
 -- each answer is written out: the value returned, and a place for each parameter, tt where nothing can change
 pub files : Files
 files = record {
-  state-mark = λ κs a x y. returned;
-  state-no-rights = λ κs a x y. returned;
   state-new-file = λ κs a x y. returned;
   state-blank-file = λ κs a x y. returned;
   state-with-newest = λ κs a x y. returned;
-  state-nowhere = λ κs a x y. returned;
   state-no-files = λ κs a x y. returned;
-  tests-both = λ κs a x y. returned;
-  tests-either = λ κs a x y. returned;
+  and-or-both = λ κs a x y. returned;
+  and-or-either = λ κs a x y. returned;
   numbers-wide = λ κs a x y. bounded;
   numbers-two = λ κs a x y. bounded;
   numbers-less = λ κs a x y. returned;
   numbers-fewer = λ κs a x y. returned;
   numbers-ends-by = λ κs a x y. returned;
-  access-marked = λ κs a x y. returned;
   access-allowed = λ κs a x y. returned;
   access-good-rights = λ κs a x y. returned;
-  access-sound-rights = λ κs a x y. returned;
   sizes-has-records = λ κs a x y. returned;
   sizes-count = λ κs a x y. bounded;
   sizes-record-length = λ κs a x y. bounded;
@@ -67,7 +62,6 @@ files = record {
   find-find-fid = λ κs a x y. returned;
   find-find-sfi = λ κs a x y. returned;
   find-sfi-unused = λ κs a x y. returned;
-  find-sfis-differ = λ κs a x y. returned;
   run-show = λ κs a x y p q i. let z = reading p q i in (z .0, (tt, (tt, (tt, (z .1, tt)))));
   run-store = λ κs a x y p q i. let z = writing p q i in (z .0, (z .1, (tt, (tt, tt))));
   run-clear = λ κs a x y p q i. (tt, (one-answer p q i, tt));
@@ -85,9 +79,7 @@ files = record {
   create-good-sfi = λ κs a x y. returned;
   create-good-contents = λ κs a x y. returned;
   create-room = λ κs a x y. returned;
-  sound-sound-file = λ κs a x y. returned;
   sound-is-sound = λ κs a x y. returned;
-  sound-is-parted-area = λ κs a x y. returned;
   area-read-binary = λ κs a x y p q i. let z = reading p q i in (z .0, (tt, (tt, (tt, (tt, (tt, (z .1, tt)))))));
   area-update-binary = λ κs a x y p q i. let z = writing p q i in (z .0, (tt, (tt, (z .1, (tt, (tt, tt))))));
   area-locate = λ κs a x y. returned;

@@ -3,24 +3,19 @@ use Rattle.files.proofs as files
 use Rattle.answers.specs.OneAnswer.{OneAnswer}
 
 pub record Files : Type 0 where
-  pub state-mark : OneAnswer files.state.mark.ended files.state.mark.Reads.Learnt
-  pub state-no-rights : OneAnswer files.state.no_rights.ended files.state.no_rights.Reads.Learnt
   pub state-new-file : OneAnswer files.state.new_file.ended files.state.new_file.Reads.Learnt
   pub state-blank-file : OneAnswer files.state.blank_file.ended files.state.blank_file.Reads.Learnt
   pub state-with-newest : OneAnswer files.state.with_newest.ended files.state.with_newest.Reads.Learnt
-  pub state-nowhere : OneAnswer files.state.nowhere.ended files.state.nowhere.Reads.Learnt
   pub state-no-files : OneAnswer files.state.no_files.ended files.state.no_files.Reads.Learnt
-  pub tests-both : OneAnswer files.tests.both.ended files.tests.both.Reads.Learnt
-  pub tests-either : OneAnswer files.tests.either.ended files.tests.either.Reads.Learnt
+  pub and-or-both : OneAnswer files.and_or.both.ended files.and_or.both.Reads.Learnt
+  pub and-or-either : OneAnswer files.and_or.either.ended files.and_or.either.Reads.Learnt
   pub numbers-wide : OneAnswer files.numbers.wide.ended files.numbers.wide.Reads.Learnt
   pub numbers-two : OneAnswer files.numbers.two.ended files.numbers.two.Reads.Learnt
   pub numbers-less : OneAnswer files.numbers.less.ended files.numbers.less.Reads.Learnt
   pub numbers-fewer : OneAnswer files.numbers.fewer.ended files.numbers.fewer.Reads.Learnt
   pub numbers-ends-by : OneAnswer files.numbers.ends_by.ended files.numbers.ends_by.Reads.Learnt
-  pub access-marked : OneAnswer files.access.marked.ended files.access.marked.Reads.Learnt
   pub access-allowed : OneAnswer files.access.allowed.ended files.access.allowed.Reads.Learnt
   pub access-good-rights : OneAnswer files.access.good_rights.ended files.access.good_rights.Reads.Learnt
-  pub access-sound-rights : OneAnswer files.access.sound_rights.ended files.access.sound_rights.Reads.Learnt
   pub sizes-has-records : OneAnswer files.sizes.has_records.ended files.sizes.has_records.Reads.Learnt
   pub sizes-count : OneAnswer files.sizes.count.ended files.sizes.count.Reads.Learnt
   pub sizes-record-length : OneAnswer files.sizes.record_length.ended files.sizes.record_length.Reads.Learnt
@@ -36,7 +31,6 @@ pub record Files : Type 0 where
   pub find-find-fid : OneAnswer files.find.find_fid.ended files.find.find_fid.Reads.Learnt
   pub find-find-sfi : OneAnswer files.find.find_sfi.ended files.find.find_sfi.Reads.Learnt
   pub find-sfi-unused : OneAnswer files.find.sfi_unused.ended files.find.sfi_unused.Reads.Learnt
-  pub find-sfis-differ : OneAnswer files.find.sfis_differ.ended files.find.sfis_differ.Reads.Learnt
   pub run-show : OneAnswer files.run.show.ended files.run.show.Reads.Learnt
   pub run-store : OneAnswer files.run.store.ended files.run.store.Reads.Learnt
   pub run-clear : OneAnswer files.run.clear.ended files.run.clear.Reads.Learnt
@@ -54,9 +48,7 @@ pub record Files : Type 0 where
   pub create-good-sfi : OneAnswer files.create.good_sfi.ended files.create.good_sfi.Reads.Learnt
   pub create-good-contents : OneAnswer files.create.good_contents.ended files.create.good_contents.Reads.Learnt
   pub create-room : OneAnswer files.create.room.ended files.create.room.Reads.Learnt
-  pub sound-sound-file : OneAnswer files.sound.sound_file.ended files.sound.sound_file.Reads.Learnt
   pub sound-is-sound : OneAnswer files.sound.is_sound.ended files.sound.is_sound.Reads.Learnt
-  pub sound-is-parted-area : OneAnswer files.sound.is_parted_area.ended files.sound.is_parted_area.Reads.Learnt
   pub area-read-binary : OneAnswer files.area.read_binary.ended files.area.read_binary.Reads.Learnt
   pub area-update-binary : OneAnswer files.area.update_binary.ended files.area.update_binary.Reads.Learnt
   pub area-locate : OneAnswer files.area.locate.ended files.area.locate.Reads.Learnt

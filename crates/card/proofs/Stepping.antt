@@ -5,6 +5,7 @@ use mathlib.Core.Bool.{true, false}
 use mathlib.Core.List.{List, [], _∷_}
 use Prim.Native.Nat.{ℕ, _+_, _-_, _≤_, _<_}
 use native.Mathlib.Omega.{arith}
+use lib.Dec.{eqb}
 use lib.ListN.{length, take, drop, length-append, length-drop}
 use borrow.Author.Tests.{eq-eqb, ne-eqb, le-leb, lt-leb}
 use Rattle.files.specs.Words.{isZero}
@@ -13,35 +14,49 @@ use Rattle.files.proofs.Checks.{split}
 use Rattle.rules.specs.declared.Card.{Card}
 use Rattle.rules.specs.declared.Answer.{Answer}
 use Rattle.rules.specs.declared.Ins.{Ins}
-use Rattle.rules.specs.Words.{byte, first, swBytes}
+use Rattle.rules.specs.Words.{byte, orElse, first, swBytes}
 use Rattle.rules.specs.State.{withChallenge}
 use Rattle.rules.specs.Sound.{sound}
 use Rattle.rules.specs.Frame.{Command, framed, frameSw, classSw}
 use Rattle.rules.specs.List.{rows, find, listed}
 use Rattle.rules.specs.Effect.{Effect, answers}
 use Rattle.files.specs.declared.Located.{Located}
-use Rattle.rules.specs.Step.{addressed, checks, effectOf, swOf, outcome, settled, step}
+use Rattle.rules.specs.Record.{recordFound}
+use Rattle.rules.specs.Step.{checks, effectOf, ruled, outcome, settled, step}
 use Rattle.rules.specs.Calls.{answer, command}
 use Rattle.rules.proofs.Checks.{passed}
 use Rattle.card.specs.declared.Header.{Header}
 use Rattle.card.specs.declared.Carried.{Carried}
 use Rattle.card.specs.Head.{headOf, commandOf}
 use Rattle.card.specs.Carried.{Carries, dataOf, Serves, Commands}
-use Rattle.card.proofs.Carrying.{with-sw}
-use Rattle.card.proofs.Serving.{addressed-given}
+use Rattle.card.proofs.Carrying.{stops, with-sw}
+use Rattle.card.proofs.Serving.{found-given}
 
--- ---- the checks decide
+-- ---- framing and class, and then the command
+module _ (a b own : ℕ) where
+  pub framed-on : orElse a b ≡ 0x9000 → orElse a (orElse b own) ≡ own
+  unfolding orElse
+  framed-on h =
+      let p = passed (a ∷ b ∷ []) h in
+      rw (eq-eqb a 0x9000 (p .0), eq-eqb b 0x9000 (p .1 .0))
+
+  pub framed-off : (orElse a b ≡ 0x9000 → ⊥) → orElse a (orElse b own) ≡ orElse a b
+  unfolding orElse
+  framed-off h =
+      split (λ z. z ≡ orElse a b) (eqb a 0x9000)
+      (λ e. let o : orElse a b ≡ b = rw e in rw (e, ne-eqb b 0x9000 (λ q. h (o ∙ q))))
+      (λ e. rw e)
+
 module _ (i : Ins) (c : Card) (l : Located) (k : Command) (random : List ℕ) where
-  pub own-passed : swOf i c l k ≡ 0x9000 → first (checks i c l k) ≡ 0x9000
-  own-passed h = passed (frameSw k ∷ classSw k ∷ first (checks i c l k) ∷ []) h .1 .1 .0
-
-  pub goes-on : swOf i c l k ≡ 0x9000 → effectOf i c l k random ≡ outcome i c l k random
+  pub obeys : orElse (frameSw k) (classSw k) ≡ 0x9000 → ruled (first (checks i c l k)) c (effectOf i c l k random) ≡ outcome i c l k random
   unfolding outcome
-  goes-on h = rw (eq-eqb (swOf i c l k) 0x9000 h)
+  obeys h = ap (λ z. ruled z c (effectOf i c l k random)) (sym (framed-on _ _ (first (checks i c l k)) h))
 
-  pub stops : (swOf i c l k ≡ 0x9000 → ⊥) → answers (swOf i c l k) c ≡ outcome i c l k random
+  pub refuses : (orElse (frameSw k) (classSw k) ≡ 0x9000 → ⊥) → answers (orElse (frameSw k) (classSw k)) c ≡ outcome i c l k random
   unfolding outcome
-  stops h = rw (ne-eqb (swOf i c l k) 0x9000 h)
+  refuses h =
+      let sw = framed-off (frameSw k) (classSw k) (first (checks i c l k)) h in
+      sym (stops _ c (effectOf i c l k random) h) ∙ ap (λ z. ruled z c (effectOf i c l k random)) (sym sw)
 
 -- ---- bounds
 pub le-few : (s : List ℕ) (h : Header) → h ≡ headOf s → byte s 4 < 256 → h .le ≤ 256
@@ -61,14 +76,14 @@ room-for-sw {e} {random} {area} {reply} w h =
 -- ---- a served command
 module _ (c : Card) (area cmd random reply : List ℕ) (h : Header) (given : List ℕ) (ins : Ins) (r : Carried) (area′ reply′ : List ℕ) where
   pub stepped : (next : Card) (ans : Answer) (reply″ : List ℕ) → h ≡ headOf cmd → given ≡ take (byte cmd 4) (drop 5 cmd) → ins ≡ find rows (h .cla) (h .ins)
-      → Carries (outcome ins c (addressed ins c area (commandOf h [])) (commandOf h given) random) random area reply r area′ reply′ → next ≡ withChallenge (r .card) (take (r .said) random)
+      → Carries (outcome ins c (recordFound c area (commandOf h [])) (commandOf h given) random) random area reply r area′ reply′ → next ≡ withChallenge (r .card) (take (r .said) random)
       → reply″ ≡ splice reply′ (r .n) (swBytes (r .sw)) → ans ≡ answer 0 next (r .n + 2) → Serves (step c area cmd random) reply ans area′ reply″
   unfolding step settled framed listed headOf
   stepped next ans reply″ eh eg ei w en er ea =
       let k : commandOf h given ≡ framed cmd = ap₂ commandOf eh eg in
       let i : ins ≡ listed (framed cmd) = ei ∙ ap (λ (x : Header). find rows (x .cla) (x .ins)) eh in
-      let e : outcome ins c (addressed ins c area (commandOf h [])) (commandOf h given) random ≡ outcome (listed (framed cmd)) c (addressed (listed (framed cmd)) c area (framed cmd)) (framed cmd) random =
-      ap (λ (z : Located). outcome ins c z (commandOf h given) random) (addressed-given c area h given ins) ∙ ap₂ (λ (x : Ins) (y : Command). outcome x c (addressed x c area y) y random) i k in
+      let e : outcome ins c (recordFound c area (commandOf h [])) (commandOf h given) random ≡ outcome (listed (framed cmd)) c (recordFound c area (framed cmd)) (framed cmd) random =
+      ap (λ (z : Located). outcome ins c z (commandOf h given) random) (found-given c area h given) ∙ ap₂ (λ (x : Ins) (y : Command). outcome x c (recordFound c area y) y random) i k in
       let w′ = rw e at w in
       record {
         answer-is = ea ∙ ap₂ (λ (x : Card) (n : ℕ). answer 0 x (n + 2)) (en ∙ ap₂ withChallenge (w′ .card-is) (w′ .said-is)) (w′ .n-is);

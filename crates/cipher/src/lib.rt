@@ -201,8 +201,7 @@ fn store(out: &mut [u8], b: [u8; 16])
 }
 
 // The block enciphered under the key, into out: 0. Where key, block or out is not 16 bytes: 6, and out stays as it was.
-#[no_mangle]
-pub extern "C" fn limpet_aes128(key: &[u8], block: &[u8], out: &mut [u8]) -> u8
+pub fn encipher(key: &[u8], block: &[u8], out: &mut [u8]) -> u8
     ensures { λ r. ⌜ Enciphered (now (key .entry)) (now (block .entry)) (now (out .entry)) r (now (out .exit)) ⌝ }
 {
     if key.len() != 16 {

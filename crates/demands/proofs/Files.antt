@@ -1,20 +1,16 @@
--- What the effect of a command does to the file of a place: a clause for each command.
+-- What a command does to the file of a place.
 use Prim.Native.Nat.{ℕ, _+_, _-_, _≤_, _<_}
-use mathlib.Core.Bool.{Bool, true, false}
+use mathlib.Core.Bool.{Bool, true}
 use mathlib.Core.List.{List, []}
 use mathlib.Core.Logic.{_⊎_, inl, inr, ⊎-elim, by-cases}
 use mathlib.Core.Path.{_≡_, refl, sym, ap, _∙_}
 use native.Mathlib.Decide.{ℕ-discrete}
 use native.Mathlib.Omega.{arith}
-use lib.ListN.{length}
-use lib.Dec.{eqb}
-use borrow.Author.Tests.{eqb-true}
+use lib.ListN.{length, take}
 use Rattle.files.specs.declared.File.{File}
 use Rattle.files.specs.declared.Directory.{Directory}
-use Rattle.files.specs.declared.Located.{Located}
 use Rattle.files.specs.State.{emptied}
-use Rattle.files.specs.Types.{binary, isVariable, size}
-use Rattle.files.specs.Rights.{allowed}
+use Rattle.files.specs.Types.{size}
 use Rattle.files.specs.Part.{splice}
 use Rattle.files.specs.Directory.{file, start, extent}
 use Rattle.files.specs.Record.{nextStart, appended, partedFile}
@@ -24,33 +20,27 @@ use Rattle.files.proofs.Checks.{split}
 use Rattle.files.proofs.Parts.{Apart, part-apart, part-splice-in, part-length}
 use Rattle.files.proofs.Extents.{within-apart, file-set, file-other, used-is, start-before, start-same, start-next}
 use Rattle.files.proofs.Appends.{appended-size}
-use Rattle.files.proofs.Parting.{Stored, stored-plain}
-use Rattle.files.proofs.Served.{binary-fits}
+use Rattle.files.proofs.Parting.{Stored}
 use Rattle.files.proofs.Kept.{filed}
-use Rattle.rules.specs.declared.Tries.{Tries}
 use Rattle.rules.specs.declared.Card.{Card}
 use Rattle.rules.specs.declared.Ins.{Ins}
-use Rattle.rules.specs.declared.Ins.the-variants.{Select, ReadBinary, UpdateBinary, ReadRecord, UpdateRecord, AppendRecord, Verify, Authenticate, ChangePin, ReloadPin, CreateFile, GetChallenge, Unlisted}
-use Rattle.rules.specs.Words.{unless}
-use Rattle.rules.specs.State.{Which, device, admin, user, withValue, withLogin}
+use Rattle.rules.specs.Words.{same}
+use Rattle.rules.specs.State.{Which}
 use Rattle.rules.specs.Sound.{sound}
-use Rattle.rules.specs.Frame.{Command, lc}
-use Rattle.rules.specs.Effect.{Effect, answers}
-use Rattle.rules.specs.Binary.{fileOf, rightSw, offset, binaryTarget, readCount, readBinaryChecks, updateBinaryChecks}
-use Rattle.rules.specs.Record.{recordTarget, recordFound, readRecordChecks, updateRecordChecks, appendChecks}
-use Rattle.rules.specs.Pins.{pinNamed, compared}
-use Rattle.rules.specs.Create.{fileGiven}
-use Rattle.rules.specs.Step.{addressed, checks, effectOf, outcome}
-use Rattle.rules.proofs.Checks.{Passed, holds, ruled-by}
+use Rattle.rules.specs.Frame.{Command}
+use Rattle.rules.specs.Effect.{Deed, turns, shows, stores, appends, makes, Touch, nothing, presents, changes, reloads, challenges, Effect, effect, answers}
+use Rattle.rules.specs.Binary.{fileOf, opens}
+use Rattle.rules.specs.Record.{recordFound}
+use Rattle.rules.specs.Pins.{comparedAt, compared}
+use Rattle.rules.specs.List.{Role, role}
+use Rattle.rules.specs.Step.{did, touched, outcome}
 use Rattle.rules.proofs.Good.{Good, sound-good}
-use Rattle.rules.proofs.Targets.{target-low}
-use Rattle.rules.proofs.Asked.{some-file, binary-asked}
-use Rattle.rules.proofs.Found.{read-fits, update-fits, update-stored, append-fits, append-stored}
 use Rattle.demands.specs.Files.{writesTo, readsFrom}
+use Rattle.demands.proofs.Rows.{Entitled, FairShow, FairStore, Fair, by-rule}
 
 -- the command addresses the file of this place, and the right is held
 abbrev pub By : Card → ℕ → ℕ → (File → ℕ) → Type 0
-By c place named right = (named ≡ place) × (allowed (c .session .rights) (right (fileOf c place)) ≡ true)
+By c place named right = (named ≡ place) × (opens c (right (fileOf c place)) ≡ true)
 
 -- the file of a place, all its numbers and bytes, stays where it is
 pub record Kept (c : Card) (place : ℕ) (e : Effect) : Type 0 where
@@ -65,28 +55,18 @@ pub record Wrote (c : Card) (area : List ℕ) (place : ℕ) (e : Effect) : Type 
   pub stored : Stored (fileOf c place) (fileOf (e .card) place) (extent (c .directory) place area) at (e .stores)
 
 -- what an effect does to the file of a place: it does not move; it is kept or written by right; what is shown is none of it, or it is read by right
-pub record Treats (c : Card) (area : List ℕ) (place : ℕ) (i : Ins) (k : Command) (e : Effect) : Type 0 where
+pub record Treats (c : Card) (area : List ℕ) (place : ℕ) (r : Role) (k : Command) (e : Effect) : Type 0 where
   pub there : place ≤ e .card .directory .count
   pub start-is : start (e .card .directory) place ≡ start (c .directory) place
   pub size-is : size (fileOf (e .card) place) ≡ size (fileOf c place)
-  pub kept : Kept c place e ⊎ (By c place (writesTo i c k) (λ f. f .write) × Wrote c area place e)
-  pub hidden : Apart (start (c .directory) place) (size (fileOf c place)) (e .from) (e .shows) ⊎ By c place (readsFrom i c k) (λ f. f .read)
+  pub kept : Kept c place e ⊎ (By c place (writesTo r c k) (λ f. f .write) × Wrote c area place e)
+  pub hidden : Apart (start (c .directory) place) (size (fileOf c place)) (e .from) (e .shows) ⊎ By c place (readsFrom r c k) (λ f. f .read)
 
--- a binary file has no length bytes
-binary-plain : (f : File) → unless (eqb (f .kind) binary) 0x6981 ≡ 0x9000 → isVariable f ≡ false
-binary-plain f h = let e : f .kind ≡ binary = eqb-true _ _ (holds (eqb (f .kind) binary) 0x6981 refl h) in rw e
-
--- what changes a credential leaves the files
-module _ (c : Card) where
-  pub value-files : (w : Which) (v : List ℕ) → withValue w c v .directory ≡ c .directory
-  value-files device v = refl
-  value-files admin v = refl
-  value-files user v = refl
-
-  pub login-files : (w : Which) (t : Tries) (held : Bool) → withLogin w c t held .directory ≡ c .directory
-  login-files device t held = refl
-  login-files admin t held = refl
-  login-files user t held = refl
+-- a comparison leaves the files
+pub compare-by : (P : Effect → Type 0) (w : Which) (c : Card) (agrees : Bool)
+    → ((sw : ℕ) (x : Card) → x .directory ≡ c .directory → P (answers sw x)) → P (compared w c agrees)
+unfolding comparedAt
+compare-by P w c agrees f = split P agrees (λ e. f _ _ refl) (λ e. f _ _ refl)
 
 module _ (c : Card) (area : List ℕ) (h : sound c area ≡ true) (place : ℕ) (some : 1 ≤ place) (low : place ≤ c .directory .count) (k : Command) where
   abbrev g : Good c
@@ -98,139 +78,78 @@ module _ (c : Card) (area : List ℕ) (h : sound c area ≡ true) (place : ℕ) 
   abbrev d : Directory
   d = c .directory
 
-  -- nothing stored or shown, no file changed
-  treats-none : (i : Ins) (e : Effect) → e .card .directory ≡ c .directory → e .from ≡ 0 → e .shows ≡ 0 → e .into ≡ 0 → e .stores ≡ []
-      → Treats c area place i k e
-  treats-none i e q a b s t = record {
-    there = rw q low;
-    start-is = ap (λ (x : Directory). start x place) q;
-    size-is = ap (λ (x : Directory). size (file x place)) q;
-    kept = inl (record { file-is = ap (λ (x : Directory). file x place) q; apart = rw (s, t) (inr (omega arith)) });
-    hidden = inl (rw (a, b) (inr (omega arith)));
-  }
-
   -- n bytes of the file of another place, from its byte a on
   aside : (t a n : ℕ) → 1 ≤ t → a + n ≤ size (fileOf c t) → (t ≡ place → ⊥)
       → Apart (start (c .directory) place) (size (fileOf c place)) (start (c .directory) t + a) n
   aside t a n l fits o =
       within-apart fs (place - 1) (t - 1) (start d t + a) n (λ e. o (omega arith)) (record { low = omega arith; high = omega (arith, fits) })
 
-  -- what the right's check told of the file that was named, told of this place
-  right-here : (t : ℕ) (right : File → ℕ) → rightSw c (right (fileOf c t)) ≡ 0x9000 → t ≡ place
-      → allowed (c .session .rights) (right (fileOf c place)) ≡ true
-  right-here t right p e =
-      ap (λ z. allowed (c .session .rights) (right (fileOf c z))) (sym e)
-      ∙ holds (allowed (c .session .rights) (right (fileOf c t))) 0x6982 refl p
+  -- what is told of the file that was named, told of this place
+  here : (named t : ℕ) (right : File → ℕ) → Entitled c named t (right (fileOf c t)) → t ≡ place → By c place named right
+  here named t right q e = (q .named-is ∙ e, ap (λ z. opens c (right (fileOf c z))) (sym e) ∙ q .held)
 
   -- shown by right, or of another file
-  shown-by : (t a n : ℕ) → 1 ≤ t → a + n ≤ size (fileOf c t) → rightSw c (fileOf c t .read) ≡ 0x9000
-      → Apart (start (c .directory) place) (size (fileOf c place)) (start (c .directory) t + a) n ⊎ By c place t (λ f. f .read)
-  shown-by t a n l fits p =
-      by-cases (ℕ-discrete t place) (λ e. inr (e, right-here t (λ f. f .read) p e)) (λ o. inl (aside t a n l fits o))
+  shown-by : (named t a n : ℕ) → FairShow c k named t a n
+      → Apart (start (c .directory) place) (size (fileOf c place)) (start (c .directory) t + a) n ⊎ By c place named (λ f. f .read)
+  shown-by named t a n q =
+      by-cases (ℕ-discrete t place) (λ e. inr (here named t (λ f. f .read) (q .entitled) e))
+      (λ o. inl (aside t a n (q .entitled .some) (q .fits) o))
 
   -- stored by right, or in another file, where the card's own file there changes in no other place
-  stored-by : (t a : ℕ) (e : Effect) → 1 ≤ t → a + length (e .stores) ≤ size (fileOf c t) → rightSw c (fileOf c t .write) ≡ 0x9000
+  stored-by : (named t a : ℕ) (e : Effect) → FairStore c area named t a (fileOf (e .card) t) (e .stores)
       → e .into ≡ start (c .directory) t + a → ((t ≡ place → ⊥) → fileOf (e .card) place ≡ fileOf c place)
-      → Stored (fileOf c t) (fileOf (e .card) t) (extent (c .directory) t area) a (e .stores)
-      → Kept c place e ⊎ (By c place t (λ f. f .write) × Wrote c area place e)
-  stored-by t a e l fits p q others st =
+      → Kept c place e ⊎ (By c place named (λ f. f .write) × Wrote c area place e)
+  stored-by named t a e q into others =
       by-cases (ℕ-discrete t place)
-      (λ m. inr ((m, right-here t (λ f. f .write) p m), rw (← m) (record { at = a; into-is = q; fits = fits; stored = st })))
-      (λ o. inl (record { file-is = others o; apart = rw q (aside t a (length (e .stores)) l fits o) }))
+      (λ m. inr (here named t (λ f. f .write) (q .entitled) m, rw (← m) (record { at = a; into-is = into; fits = q .fits; stored = q .stored })))
+      (λ o. inl (record { file-is = others o; apart = rw into (aside t a (length (e .stores)) (q .entitled .some) (q .fits) o) }))
 
-  module _ (random : List ℕ) where
-    none : (i : Ins) (sw : ℕ) (x : Card) → x .directory ≡ c .directory → Treats c area place i k (answers sw x)
-    none i sw x q = treats-none i (answers sw x) q refl refl refl refl
+  module _ (i : Ins) where
+    -- nothing stored or shown, no file changed
+    none : (sw : ℕ) (x : Card) (said : List ℕ) → x .directory ≡ c .directory → Treats c area place (role i) k (effect sw x said 0 0 0 [])
+    none sw x said q = record {
+      there = rw q low;
+      start-is = ap (λ (x : Directory). start x place) q;
+      size-is = ap (λ (x : Directory). size (file x place)) q;
+      kept = inl (record { file-is = ap (λ (x : Directory). file x place) q; apart = inr (omega arith) });
+      hidden = inl (inr (omega arith));
+    }
 
-    compare-treats : (i : Ins) (w : Which) (agrees : Bool) → Treats c area place i k (compared w c agrees)
-    unfolding compared
-    compare-treats i w agrees =
-        split (Treats c area place i k) agrees (λ e. none i _ _ (login-files c w _ true)) (λ e. none i _ _ (login-files c w _ false))
-
-    -- the file that a binary command addresses, and that of a record command
-    abbrev b : ℕ
-    b = binaryTarget c k
-
-    abbrev t : ℕ
-    t = recordTarget c k
-
-    named-place : 1 ≤ t → t - 1 < length fs
-    named-place l =
+    deed-treats : (x : Deed) → Fair i c area k x → Treats c area place (role i) k (did c x)
+    unfolding created
+    deed-treats (turns t) q = none _ _ [] refl
+    deed-treats (shows t a n) q = record {
+      there = low;
+      start-is = refl;
+      size-is = refl;
+      kept = inl (record { file-is = refl; apart = inr (omega arith) });
+      hidden = shown-by _ t a n q;
+    }
+    deed-treats (stores t a bytes) q = record {
+      there = low;
+      start-is = refl;
+      size-is = refl;
+      kept = stored-by _ t a (did c (stores t a bytes)) q refl (λ o. refl);
+      hidden = inl (inr (omega arith));
+    }
+    deed-treats (appends t bytes) q =
         let w = filed (c .directory) (g .directory) in
-        let low : t ≤ c .directory .count = target-low c g _ in omega (arith, w .places, w .few, low)
-
-    -- what a command does to the record that it addresses
-    abbrev effect : Ins → Effect
-    effect i = effectOf i c (addressed i c area k) k random
-
-    abbrev l : Located
-    l = recordFound c area k
-
-    row : (i : Ins) → Passed (checks i c (addressed i c area k) k) → Treats c area place i k (effect i)
-    unfolding addressed checks effectOf writesTo readsFrom readBinaryChecks updateBinaryChecks readRecordChecks updateRecordChecks appendChecks created
-    row Select p = none Select _ _ refl
-    row ReadBinary p = record {
-      there = low;
-      start-is = refl;
-      size-is = refl;
-      kept = inl (record { file-is = refl; apart = inr (omega arith) });
-      hidden =
-          let n = readCount (fileOf c b) k in
-          shown-by b (offset k) n (some-file b (p .1 .1 .0))
-          (binary-fits _ (offset k) n (binary-asked c b _ (offset k) n (p .1 .1))) (p .1 .1 .1 .1 .0);
-    }
-    row UpdateBinary p = record {
-      there = low;
-      start-is = refl;
-      size-is = refl;
-      kept =
-          stored-by b (offset k) (effect UpdateBinary) (some-file b (p .1 .1 .0))
-          (binary-fits _ (offset k) (lc k) (binary-asked c b _ (offset k) (lc k) (p .1 .1))) (p .1 .1 .1 .1 .0) refl (λ o. refl)
-          (stored-plain _ _ _ _ _ (binary-plain (fileOf c b) (p .1 .1 .1 .0)));
-      hidden = inl (inr (omega arith));
-    }
-    row ReadRecord p = record {
-      there = low;
-      start-is = refl;
-      size-is = refl;
-      kept = inl (record { file-is = refl; apart = inr (omega arith) });
-      hidden =
-          shown-by t (l .start) (l .length) (some-file t (p .1 .1 .0)) (read-fits c area h k (some-file t (p .1 .1 .0)) p) (p .1 .1 .1 .1 .0);
-    }
-    row UpdateRecord p = record {
-      there = low;
-      start-is = refl;
-      size-is = refl;
-      kept =
-          stored-by t (l .start) (effect UpdateRecord) (some-file t (p .1 .1 .0))
-          (update-fits c area h k (some-file t (p .1 .1 .0)) p) (p .1 .1 .1 .1 .0) refl (λ o. refl) (update-stored c area h k (some-file t (p .1 .1 .0)) p);
-      hidden = inl (inr (omega arith));
-    }
-    row AppendRecord p =
-        let some-t = some-file t (p .1 .1 .0) in
-        let room = named-place some-t in
-        let f = appended (fileOf c t) (lc k) in
-        let same-size = appended-size (fileOf c t) (lc k) in
-        let moved = start-same fs (t - 1) f room same-size in
-        let others : (t ≡ place → ⊥) → fileOf (effect AppendRecord .card) place ≡ fileOf c place =
-        λ o. file-other fs (t - 1) f (place - 1) (λ e. o (omega arith)) in
+        let in-list : t - 1 < length fs = omega (arith, w .places, w .few, q .fair .entitled .some, q .fair .entitled .low) in
+        let f = appended (fileOf c t) (length bytes) in
+        let same-size = appended-size (fileOf c t) (length bytes) in
+        let others : (t ≡ place → ⊥) → fileOf (did c (appends t bytes) .card) place ≡ fileOf c place =
+        λ o. file-other fs (t - 1) f (place - 1) (λ e. o (omega (arith, q .fair .entitled .some))) in
         record {
           there = low;
-          start-is = moved (place - 1);
+          start-is = start-same fs (t - 1) f in-list same-size (place - 1);
           size-is =
-              by-cases (ℕ-discrete t place) (λ e. rw (← e) (ap size (file-set fs (t - 1) f room) ∙ same-size)) (λ o. ap size (others o));
-          kept =
-              stored-by t (nextStart (fileOf c t)) (effect AppendRecord) some-t (append-fits c area h k some-t p) (p .1 .1 .1 .1 .0) refl others
-              (rw (file-set fs (t - 1) f room) (append-stored c area h k some-t p));
+              by-cases (ℕ-discrete t place) (λ e. rw (← e) (ap size (file-set fs (t - 1) f in-list) ∙ same-size)) (λ o. ap size (others o));
+          kept = stored-by _ t (nextStart (fileOf c t)) (did c (appends t bytes)) (rw (file-set fs (t - 1) f in-list) (q .fair)) refl others;
           hidden = inl (inr (omega arith));
         }
-    row Verify p = split (Treats c area place Verify k) (eqb (k .case) 1) (λ e. none Verify _ _ refl) (λ e. compare-treats Verify (pinNamed k) _)
-    row Authenticate p = compare-treats Authenticate device _
-    row ChangePin p = none ChangePin _ _ (value-files c (pinNamed k) (k .given))
-    row ReloadPin p = none ReloadPin _ _ refl
-    row CreateFile p =
+    deed-treats (makes made) q =
         let n = d .count in
-        let f = emptied (fileGiven k) in
+        let f = emptied made in
         let past : place - 1 < n = omega arith in
         let before = file-other fs n f (place - 1) (λ e. omega arith) in
         let next = start-next fs (place - 1) n past in
@@ -242,14 +161,20 @@ module _ (c : Card) (area : List ℕ) (h : sound c area ≡ true) (place : ℕ) 
           kept = inl (record { file-is = before; apart = rw at-end (inl next) });
           hidden = inl (inr (omega arith));
         }
-    row GetChallenge p = treats-none GetChallenge (effect GetChallenge) refl refl refl refl refl
-    row Unlisted p = none Unlisted _ _ refl
 
-    pub treats : (i : Ins) → Treats c area place i k (outcome i c (addressed i c area k) k random)
-    treats i = ruled-by (Treats c area place i k) i c (addressed i c area k) k random (row i) (λ sw. none i sw c refl)
+    module _ (random : List ℕ) where
+      touch-treats : (t : Touch) → Treats c area place (role i) k (touched c t random)
+      touch-treats nothing = none _ _ [] refl
+      touch-treats (presents w value given) = compare-by (Treats c area place (role i) k) w c (same value given) (λ sw x e. none sw x [] e)
+      touch-treats (changes w bytes) = none _ _ [] refl
+      touch-treats (reloads w bytes) = none _ _ [] refl
+      touch-treats (challenges n) = none 0x9000 c (take n random) refl
+
+      pub treats : Treats c area place (role i) k (outcome i c (recordFound c area k) k random)
+      treats = by-rule (Treats c area place (role i) k) i c area h k random deed-treats (λ t q. touch-treats t) (λ sw. none sw c [] refl)
 
 -- the file's extent afterwards: parted again, and with the same length bytes on areas that had them
-module _ (c : Card) (area : List ℕ) (place : ℕ) (i : Ins) (k : Command) (e : Effect) (w : Treats c area place i k e)
+module _ (c : Card) (area : List ℕ) (place : ℕ) (r : Role) (k : Command) (e : Effect) (w : Treats c area place r k e)
     (inside : start (c .directory) place + size (fileOf c place) ≤ length area) (fits : e .into + length (e .stores) ≤ length area) where
   long : (y : List ℕ) → start (c .directory) place + size (fileOf c place) ≤ length y → length (extent (c .directory) place y) ≡ size (fileOf c place)
   unfolding extent

@@ -1,29 +1,39 @@
 -- The card's credentials and challenge are the ledger's, after any list of calls.
-use Prim.Native.Nat.{ℕ, _+_, _-_}
+use Prim.Native.Nat.{ℕ, _+_, _-_, _<_}
 use mathlib.Core.Bool.{Bool, true, false, cond}
 use mathlib.Core.List.{List, [], _∷_}
-use mathlib.Core.Path.{_≡_, refl, sym, ap, _∙_}
+use mathlib.Core.Logic.{by-cases}
+use mathlib.Core.Path.{_≡_, refl, sym, ap, _∙_, fun-ext}
+use native.Mathlib.Decide.{ℕ-discrete}
 use native.Mathlib.Omega.{arith}
 use lib.Dec.{eqb}
+use lib.ListN.{length, length-set}
+use lib.Seq.{getD-set-same, getD-set-other}
+use borrow.Author.Tests.{eq-eqb, ne-eqb}
 use Rattle.files.specs.declared.Located.{Located}
+use Rattle.files.proofs.Checks.{split}
+use Rattle.rules.specs.declared.Tries.{Tries}
 use Rattle.rules.specs.declared.Card.{Card}
 use Rattle.rules.specs.declared.Ins.{Ins}
-use Rattle.rules.specs.declared.Ins.the-variants.{Select, ReadBinary, UpdateBinary, ReadRecord, UpdateRecord, AppendRecord, Verify, Authenticate, ChangePin, ReloadPin, CreateFile, GetChallenge, Unlisted}
-use Rattle.rules.specs.Words.{same}
-use Rattle.rules.specs.Tries.{lowered, restored}
-use Rattle.rules.specs.State.{Which, device, admin, user, Login, Logins, login, logins, challenge, withValue, withLogin}
-use Rattle.rules.specs.Frame.{Command, framed}
-use Rattle.rules.specs.List.{listed}
-use Rattle.rules.specs.Effect.{Effect, becomes, answers, says}
-use Rattle.rules.specs.Pins.{pinNamed, compared, verifyEffect, changeEffect, reloadEffect}
-use Rattle.rules.specs.Device.{cryptogram, authenticateEffect}
-use Rattle.rules.specs.Step.{addressed, checks, effectOf, swOf, outcome, settled, step}
+use Rattle.rules.specs.Words.{first, same}
+use Rattle.rules.specs.Tries.{full as full-tries, lowered, restored}
+use Rattle.rules.specs.State.{Which, numberOf, howMany, mark, noCredential, credential, Login, Logins, loginAt, login, logins, challenge, credentialOf, withTries, withLoginAt, withValueAt}
+use Rattle.rules.specs.Frame.{Command, framed, frameSw, classSw}
+use Rattle.rules.specs.Effect.{Deed, turns, shows, stores, appends, makes, Touch, nothing, presents, changes, reloads, challenges, Effect}
+use Rattle.rules.specs.Record.{recordFound}
+use Rattle.rules.specs.Pins.{comparedAt}
+use Rattle.rules.specs.List.{listed, Role, role, Rule, ofFiles, ofCredentials, rule}
+use Rattle.rules.specs.Step.{checksOf, did, touched, effectBy, checks, effectOf, ruled, outcome, settled, step}
 use Rattle.rules.specs.Calls.{Order, fresh}
-use Rattle.rules.proofs.Good.{filled-back}
-use Rattle.demands.specs.Ledger.{Event, sent, resets, Kind, other, right, wrong, changed, reloaded, ended, Page, valueSet, wrongSince, isHeld, told, Ledger, tells, about, presented, kind, challenged, booked, entered, servable, next, tell, ledger}
+use Rattle.rules.proofs.Good.{numbered, filled-back, marked-mark, at-which, zero-at, sound-good}
+use Rattle.demands.specs.Ledger.{Event, sent, resets, Kind, other, right, wrong, changed, reloaded, ended, Page, valueSet, wrongSince, isHeld, told, Ledger, page, tells, passes, kind, challenged, booked, entered, servable, next, tell, ledger}
 use Rattle.demands.specs.Run.{World, world, called, run, Served, after}
 use Rattle.demands.specs.Follows.{ChallengeFollows}
 use Rattle.demands.proofs.Live.{Live, call-live, after-live, issue-fresh, command-is, reset-is}
+use Rattle.demands.proofs.Presented.{presented-is}
+use Rattle.demands.proofs.Labels.{Matches}
+use Rattle.demands.proofs.Rows.{kindOf, leftBy, Row, row}
+use Rattle.demands.proofs.Made.{outcome-labels}
 
 -- what each kind does to a credential
 abbrev act : Kind → Login → Login
@@ -34,104 +44,128 @@ act (changed d) l = record { value = d; tries = l .tries; held = l .held }
 act (reloaded d) l = record { value = d; tries = restored (l .tries); held = false }
 act ended l = record { value = l .value; tries = l .tries; held = false }
 
-abbrev acts : (Which → Kind) → Logins → Logins
-acts f l = record { device = act (f device) (l .device); admin = act (f admin) (l .admin); user = act (f user) (l .user) }
+-- where the checks pass and where not
+alike : {A B : Type 0} (R : A → B → Type 0) (b : Bool) {e n : A} {x y : B} → R e x → R n y → R (cond b e n) (cond b x y)
+alike R true p q = p
+alike R false p q = q
 
-module _ (c : Card) where
-  -- where the checks pass it is this kind, where not nothing happens
-  passed-as : (b : Bool) (sw : ℕ) (e : Effect) (f : Which → Kind) → logins (e .card) ≡ acts f (logins c)
-      → logins (cond b e (answers sw c) .card) ≡ acts (λ w. cond b (f w) other) (logins c)
-  passed-as true sw e f h = h
-  passed-as false sw e f h = refl
+-- every credential has its place, and so has every right
+pub record Full (c : Card) : Type 0 where
+  pub all-there : length (c .credentials) ≡ howMany
+  pub all-kept : length (c .session .rights) ≡ howMany
 
-  quiet : (b : Bool) (sw : ℕ) (e : Effect) → logins (e .card) ≡ logins c → logins (cond b e (answers sw c) .card) ≡ logins c
-  quiet true sw e h = h
-  quiet false sw e h = refl
+module _ (c : Card) (q : Full c) (n : ℕ) (l : n < howMany) where
+  pub login-set : (t : Tries) (h : Bool) → loginAt n (withLoginAt n c t h) ≡ record { value = loginAt n c .value; tries = t; held = h }
+  login-set t h =
+      rw (
+        getD-set-same (c .credentials) n (withTries (credential c n) t) noCredential (rw (q .all-there) l),
+        getD-set-same (c .session .rights) n (mark h) 0 (rw (q .all-kept) l),
+        marked-mark h,
+      )
 
-  compare : (w : Which) (b : Bool) → logins (compared w c b .card) ≡ acts (λ v. about w v (cond b right wrong)) (logins c)
-  unfolding compared
-  compare device true = refl
-  compare device false = refl
-  compare admin true = refl
-  compare admin false = refl
-  compare user true = refl
-  compare user false = refl
+  value-set : (d : List ℕ) → loginAt n (withValueAt n c d) ≡ record { value = d; tries = loginAt n c .tries; held = loginAt n c .held }
+  value-set d =
+      rw (getD-set-same (c .credentials) n (credentialOf d (credential c n .tries)) noCredential (rw (q .all-there) l), filled-back d)
 
-  change : (w : Which) (d : List ℕ) → logins (withValue w c d) ≡ acts (λ v. about w v (changed d)) (logins c)
-  change device d = refl
-  change admin d = rw (filled-back d)
-  change user d = rw (filled-back d)
+module _ (c : Card) (n m : ℕ) (o : m ≡ n → ⊥) where
+  login-other : (t : Tries) (h : Bool) → loginAt m (withLoginAt n c t h) ≡ loginAt m c
+  login-other t h = rw (getD-set-other (c .credentials) n m (withTries (credential c n) t) noCredential o, getD-set-other (c .session .rights) n m (mark h) 0 o)
 
-  reload : (d : List ℕ)
-      → logins (withLogin user (withValue user c d) (restored (login user c .tries)) false) ≡ acts (λ v. about user v (reloaded d)) (logins c)
-  reload d = rw (filled-back d)
+  value-other : (d : List ℕ) → loginAt m (withValueAt n c d) ≡ loginAt m c
+  value-other d = rw (getD-set-other (c .credentials) n m (credentialOf d (credential c n .tries)) noCredential o)
 
-  query-or : (b : Bool) (e : Effect) (f : Which → Kind) → logins (e .card) ≡ acts f (logins c)
-      → logins (cond b (becomes c) e .card) ≡ acts (λ w. cond b other (f w)) (logins c)
-  query-or true e f h = refl
-  query-or false e f h = h
+-- the one that is named is acted on, and the others stay
+named-alone : (c x : Card) (n : ℕ) (y : Kind) → loginAt n x ≡ act y (loginAt n c) → ((m : ℕ) → (m ≡ n → ⊥) → loginAt m x ≡ loginAt m c)
+    → (m : ℕ) → loginAt m x ≡ act (cond (eqb n m) y other) (loginAt m c)
+named-alone c x n y s f m =
+    by-cases (ℕ-discrete m n) (λ e. rw (e, eq-eqb n n refl) s) (λ o. rw (ne-eqb n m (λ e. o (sym e))) (f m o))
 
-  row : (i : Ins) (l : Located) (k : Command) (random : List ℕ) → logins (outcome i c l k random .card) ≡ acts (kind i (logins c) (challenge c) k) (logins c)
-  unfolding outcome effectOf checks kind
-  row Select l k random = quiet (eqb (swOf Select c l k) 0x9000) _ (effectOf Select c l k random) refl
-  row ReadBinary l k random = quiet (eqb (swOf ReadBinary c l k) 0x9000) _ (effectOf ReadBinary c l k random) refl
-  row UpdateBinary l k random = quiet (eqb (swOf UpdateBinary c l k) 0x9000) _ (effectOf UpdateBinary c l k random) refl
-  row ReadRecord l k random = quiet (eqb (swOf ReadRecord c l k) 0x9000) _ (effectOf ReadRecord c l k random) refl
-  row UpdateRecord l k random = quiet (eqb (swOf UpdateRecord c l k) 0x9000) _ (effectOf UpdateRecord c l k random) refl
-  row AppendRecord l k random = quiet (eqb (swOf AppendRecord c l k) 0x9000) _ (effectOf AppendRecord c l k random) refl
-  row Verify l k random =
-      passed-as (eqb (swOf Verify c l k) 0x9000) _ (verifyEffect c k)
-      (λ w. cond (eqb (k .case) 1) other (about (pinNamed k) w (presented (login (pinNamed k) c .value) k)))
-      (query-or (eqb (k .case) 1) (compared (pinNamed k) c (same (login (pinNamed k) c .value) (k .given)))
-      (λ w. about (pinNamed k) w (presented (login (pinNamed k) c .value) k))
-      (compare (pinNamed k) (same (login (pinNamed k) c .value) (k .given))))
-  row Authenticate l k random =
-      passed-as (eqb (swOf Authenticate c l k) 0x9000) _ (authenticateEffect c k)
-      (λ w. about device w (presented (cryptogram (login device c .value) (challenge c)) k))
-      (compare device (same (cryptogram (login device c .value) (challenge c)) (k .given)))
-  row ChangePin l k random =
-      passed-as (eqb (swOf ChangePin c l k) 0x9000) _ (changeEffect c k) (λ w. about (pinNamed k) w (changed (k .given)))
-      (change (pinNamed k) (k .given))
-  row ReloadPin l k random =
-      passed-as (eqb (swOf ReloadPin c l k) 0x9000) _ (reloadEffect c k) (λ w. about user w (reloaded (k .given))) (reload (k .given))
-  row CreateFile l k random = quiet (eqb (swOf CreateFile c l k) 0x9000) _ (effectOf CreateFile c l k random) refl
-  row GetChallenge l k random = quiet (eqb (swOf GetChallenge c l k) 0x9000) _ (effectOf GetChallenge c l k random) refl
-  row Unlisted l k random = quiet (eqb (swOf Unlisted c l k) 0x9000) _ (effectOf Unlisted c l k random) refl
+module _ (c : Card) (q : Full c) where
+  compare : (n : ℕ) → n < howMany → (b : Bool) (m : ℕ)
+      → loginAt m (comparedAt n c b .card) ≡ act (cond (eqb n m) (cond b right wrong) other) (loginAt m c)
+  unfolding comparedAt
+  compare n l true m =
+      named-alone c (withLoginAt n c (restored (loginAt n c .tries)) true) n right (login-set c q n l _ true) (λ j o. login-other c n j o _ true) m
+  compare n l false m =
+      named-alone c (withLoginAt n c (lowered (loginAt n c .tries)) false) n wrong (login-set c q n l _ false) (λ j o. login-other c n j o _ false) m
 
-  -- only GET CHALLENGE says bytes of itself
-  silent : (b : Bool) (sw : ℕ) (e : Effect) → e .says ≡ [] → cond b e (answers sw c) .says ≡ []
-  silent true sw e h = h
-  silent false sw e h = refl
+  change : (n : ℕ) → n < howMany → (d : List ℕ) (m : ℕ) → loginAt m (withValueAt n c d) ≡ act (cond (eqb n m) (changed d) other) (loginAt m c)
+  change n l d m = named-alone c (withValueAt n c d) n (changed d) (value-set c q n l d) (λ j o. value-other c n j o d) m
 
-  compare-silent : (w : Which) (b : Bool) → compared w c b .says ≡ []
-  unfolding compared
-  compare-silent w true = refl
-  compare-silent w false = refl
+  valued-full : (n : ℕ) (d : List ℕ) → Full (withValueAt n c d)
+  valued-full n d = record { all-there = length-set (c .credentials) n (credentialOf d (credential c n .tries)) ∙ q .all-there; all-kept = q .all-kept }
 
-  query-silent : (b : Bool) (e : Effect) → e .says ≡ [] → cond b (becomes c) e .says ≡ []
-  query-silent true e h = refl
-  query-silent false e h = h
+  reload : (n : ℕ) → n < howMany → (d : List ℕ) (m : ℕ)
+      → loginAt m (withLoginAt n (withValueAt n c d) (restored (loginAt n c .tries)) false) ≡ act (cond (eqb n m) (reloaded d) other) (loginAt m c)
+  reload n l d m =
+      let x = withValueAt n c d in
+      let t = restored (loginAt n c .tries) in
+      named-alone c (withLoginAt n x t false) n (reloaded d)
+      (login-set x (valued-full n d) n l t false ∙ ap (λ (y : Login). record { value = y .value; tries = t; held = false }) (value-set c q n l d))
+      (λ j o. login-other x n j o t false ∙ value-other c n j o d) m
 
-  said : (b : Bool) (sw : ℕ) (d : List ℕ) → cond b (says c d) (answers sw c) .says ≡ cond b d []
-  said true sw d = refl
-  said false sw d = refl
+  -- a touch is to each credential what the ledger says
+  touched-login : (t : Touch) (random : List ℕ) (w : Which) → login w (touched c t random .card) ≡ act (kindOf t w) (login w c)
+  touched-login nothing random w = refl
+  touched-login (presents v value given) random w =
+      compare (numberOf v) (numbered v) (same value given) (numberOf w)
+      ∙ ap (λ (x : Kind). act (cond (eqb (numberOf v) (numberOf w)) x other) (login w c)) (presented-is value given)
+  touched-login (changes v d) random w = change (numberOf v) (numbered v) d (numberOf w)
+  touched-login (reloads v d) random w = reload (numberOf v) (numbered v) d (numberOf w)
+  touched-login (challenges n) random w = refl
 
-  leaves : (i : Ins) (l : Located) (k : Command) (random : List ℕ) → outcome i c l k random .says ≡ challenged i k random
-  unfolding outcome effectOf checks challenged
-  leaves Select l k random = silent (eqb (swOf Select c l k) 0x9000) _ (effectOf Select c l k random) refl
-  leaves ReadBinary l k random = silent (eqb (swOf ReadBinary c l k) 0x9000) _ (effectOf ReadBinary c l k random) refl
-  leaves UpdateBinary l k random = silent (eqb (swOf UpdateBinary c l k) 0x9000) _ (effectOf UpdateBinary c l k random) refl
-  leaves ReadRecord l k random = silent (eqb (swOf ReadRecord c l k) 0x9000) _ (effectOf ReadRecord c l k random) refl
-  leaves UpdateRecord l k random = silent (eqb (swOf UpdateRecord c l k) 0x9000) _ (effectOf UpdateRecord c l k random) refl
-  leaves AppendRecord l k random = silent (eqb (swOf AppendRecord c l k) 0x9000) _ (effectOf AppendRecord c l k random) refl
-  leaves Verify l k random =
-      silent (eqb (swOf Verify c l k) 0x9000) _ (verifyEffect c k) (query-silent (eqb (k .case) 1) _ (compare-silent (pinNamed k) _))
-  leaves Authenticate l k random = silent (eqb (swOf Authenticate c l k) 0x9000) _ (authenticateEffect c k) (compare-silent device _)
-  leaves ChangePin l k random = silent (eqb (swOf ChangePin c l k) 0x9000) _ (changeEffect c k) refl
-  leaves ReloadPin l k random = silent (eqb (swOf ReloadPin c l k) 0x9000) _ (reloadEffect c k) refl
-  leaves CreateFile l k random = silent (eqb (swOf CreateFile c l k) 0x9000) _ (effectOf CreateFile c l k random) refl
-  leaves GetChallenge l k random = said (eqb (swOf GetChallenge c l k) 0x9000) _ _
-  leaves Unlisted l k random = silent (eqb (swOf Unlisted c l k) 0x9000) _ (effectOf Unlisted c l k random) refl
+  -- a deed is nothing to them
+  did-login : (d : Deed) (w : Which) → login w (did c d .card) ≡ login w c
+  did-login (turns place) w = refl
+  did-login (shows place at n) w = refl
+  did-login (stores place at bytes) w = refl
+  did-login (appends place bytes) w = refl
+  did-login (makes f) w = refl
+
+  -- only a challenge is said
+  touched-says : (t : Touch) (random : List ℕ) → touched c t random .says ≡ leftBy t random
+  unfolding comparedAt
+  touched-says nothing random = refl
+  touched-says (presents v value given) random = split (λ (e : Effect). e .says ≡ []) (same value given) (λ e. refl) (λ e. refl)
+  touched-says (changes v d) random = refl
+  touched-says (reloads v d) random = refl
+  touched-says (challenges n) random = refl
+
+  did-says : (d : Deed) → did c d .says ≡ []
+  did-says (turns place) = refl
+  did-says (shows place at n) = refl
+  did-says (stores place at bytes) = refl
+  did-says (appends place bytes) = refl
+  did-says (makes f) = refl
+
+  module _ (i : Ins) (l : Located) (k : Command) (random : List ℕ) where
+    abbrev ruledBy : Rule → Effect
+    ruledBy r = ruled (first (frameSw k ∷ classSw k ∷ first (checksOf r c l k) ∷ [])) c (effectBy r c l k random)
+
+    outcome-login : (w : Which) → login w (outcome i c l k random .card) ≡ act (kind (role i) (logins c) (challenge c) k w) (login w c)
+    unfolding outcome effectOf checks
+    outcome-login w = go (rule i) (row i)
+      where
+        go : (r : Rule) → Row i r → login w (ruledBy r .card) ≡ act (kind (role i) (logins c) (challenge c) k w) (login w c)
+        go (ofFiles t d) q =
+            rw (q .kind-is (logins c) (challenge c) k w)
+            (split (λ (e : Effect). login w (e .card) ≡ login w c) (passes (t c l k) k) (λ e. did-login (d c l k) w) (λ e. refl))
+        go (ofCredentials t d) q =
+            rw (q .kind-is (logins c) (challenge c) k w)
+            (alike (λ (e : Effect) (y : Kind). login w (e .card) ≡ act y (login w c)) (passes (t (logins c) (challenge c) k) k)
+            (touched-login (d (logins c) (challenge c) k) random w) refl)
+
+    outcome-says : outcome i c l k random .says ≡ challenged (role i) k random
+    unfolding outcome effectOf checks
+    outcome-says = go (rule i) (row i)
+      where
+        go : (r : Rule) → Row i r → ruledBy r .says ≡ challenged (role i) k random
+        go (ofFiles t d) q =
+            rw (q .left-is k random) (split (λ (e : Effect). e .says ≡ []) (passes (t c l k) k) (λ e. did-says (d c l k)) (λ e. refl))
+        go (ofCredentials t d) q =
+            rw (q .left-is (logins c) (challenge c) k random)
+            (alike (λ (e : Effect) (y : List ℕ). e .says ≡ y) (passes (t (logins c) (challenge c) k) k)
+            (touched-says (d (logins c) (challenge c) k) random) refl)
 
 -- a page tells what its latest kind does
 tell-kind : (x : Kind) (p : Page) → told (booked x p) ≡ act x (told p)
@@ -145,33 +179,35 @@ tell-kind ended p = refl
 
 -- the card and the ledger agree
 pub record Agree (c : Card) (l : Ledger) : Type 0 where
-  pub logins-are : logins c ≡ tells l
+  pub logins-are : (w : Which) → login w c ≡ told (page w l)
   pub challenge-is : challenge c ≡ l .challenge
+  pub labels-are : Matches (c .directory) (l .labels)
 
-three : (d a u d′ a′ u′ : Login) → d ≡ d′ → a ≡ a′ → u ≡ u′
-    → _≡_ {A = Logins} (record { device = d; admin = a; user = u }) (record { device = d′; admin = a′; user = u′ })
-three d a u d′ a′ u′ p q r = cc
+pub full : (c : Card) (area : List ℕ) → Live (world c area) → Full c
+full c area v = let g = sound-good c area (v .sound-card) in record { all-there = g .all-there; all-kept = g .all-kept }
 
-tells-entered : (l : Ledger) (k : Command) (random : List ℕ)
-    → tells (entered l k random) ≡ acts (kind (listed k) (tells l) (l .challenge) k) (tells l)
-tells-entered l k random =
-    three _ _ _ _ _ _ (tell-kind (kind (listed k) (tells l) (l .challenge) k device) (l .device))
-    (tell-kind (kind (listed k) (tells l) (l .challenge) k admin) (l .admin))
-    (tell-kind (kind (listed k) (tells l) (l .challenge) k user) (l .user))
-
-both-same : (i : Ins) (k : Command) (x y : Logins) (a b : List ℕ) → x ≡ y → a ≡ b → acts (kind i x a k) x ≡ acts (kind i y b k) y
-both-same i k x y a b p q = ap (λ (z : Logins). acts (kind i z a k) z) p ∙ ap (λ z. acts (kind i y z k) y) q
-
-step-agrees : (c : Card) (l : Ledger) (area cmd random : List ℕ) → Agree c l
+step-agrees : (c : Card) (l : Ledger) (area cmd random : List ℕ) → Live (world c area) → Agree c l
     → Agree (step c area cmd random .card) (entered l (framed cmd) random)
 unfolding step settled
-step-agrees c l area cmd random h = record {
-  logins-are =
-      row c (listed (framed cmd)) (addressed (listed (framed cmd)) c area (framed cmd)) (framed cmd) random
-      ∙ both-same (listed (framed cmd)) (framed cmd) (logins c) (tells l) (challenge c) (l .challenge) (h .logins-are) (h .challenge-is)
-      ∙ sym (tells-entered l (framed cmd) random);
-  challenge-is = filled-back _ ∙ leaves c (listed (framed cmd)) (addressed (listed (framed cmd)) c area (framed cmd)) (framed cmd) random;
-}
+step-agrees c l area cmd random v h =
+    let i = listed (framed cmd) in
+    let x = recordFound c area (framed cmd) in
+    record {
+      logins-are = λ w.
+          outcome-login c (full c area v) i x (framed cmd) random w
+          ∙ same-kind (role i) (logins c) (tells l) (challenge c) (l .challenge) w told-logins (h .challenge-is)
+          ∙ sym (tell-kind (kind (role i) (tells l) (l .challenge) (framed cmd) w) (page w l));
+      challenge-is = filled-back _ ∙ outcome-says c (full c area v) i x (framed cmd) random;
+      labels-are =
+          rw (← told-logins) (outcome-labels i c area (v .sound-card) (framed cmd) random (l .labels) (h .labels-are));
+    }
+  where
+    told-logins : logins c ≡ tells l
+    told-logins = fun-ext (h .logins-are)
+
+    same-kind : (r : Role) (x y : Logins) (a b : List ℕ) (w : Which) → x ≡ y → a ≡ b
+        → act (kind r x a (framed cmd) w) (x w) ≡ act (kind r y b (framed cmd) w) (y w)
+    same-kind r x y a b w p q = ap (λ (z : Logins). act (kind r z a (framed cmd) w) (z w)) p ∙ ap (λ z. act (kind r y z (framed cmd) w) (y w)) q
 
 call-agrees : (w : World) (l : Ledger) (e : Event) → Live w → Agree (w .card) l → Agree (called w e .card) (next l e)
 call-agrees w l (sent cmd random reply) v h =
@@ -180,15 +216,14 @@ call-agrees w l (sent cmd random reply) v h =
     go : (b : Bool)
         → Agree (cond b (world (step (w .card) (w .area) cmd random .card) (step (w .card) (w .area) cmd random .area)) w .card)
         (cond b (entered l (framed cmd) random) l)
-    go true = step-agrees (w .card) l (w .area) cmd random h
+    go true = step-agrees (w .card) l (w .area) cmd random v h
     go false = h
 call-agrees w l resets v h =
     rw (reset-is (w .card) (w .area) v)
     (record {
-      logins-are =
-          ap (acts (λ x. ended)) (h .logins-are)
-          ∙ sym (three _ _ _ _ _ _ (tell-kind ended (l .device)) (tell-kind ended (l .admin)) (tell-kind ended (l .user)));
+      logins-are = λ x. rw (zero-at (numberOf x) howMany) (ap (act ended) (h .logins-are x) ∙ sym (tell-kind ended (page x l)));
       challenge-is = refl;
+      labels-are = h .labels-are;
     })
 
 run-agrees : (w : World) (l : Ledger) (es : List Event) → Live w → Agree (w .card) l → Agree (run w es .card) (tell l es)
@@ -199,12 +234,11 @@ run-agrees w l (e ∷ es) v h = run-agrees (called w e) (next l e) es (call-live
 fresh-agrees : (o : Order) → Agree (fresh o) (ledger o [])
 unfolding ledger tell valueSet wrongSince isHeld
 fresh-agrees o = record {
-  logins-are =
-      let e₁ : o .device - 0 ≡ o .device = omega arith in
-      let e₂ : o .admin - 0 ≡ o .admin = omega arith in
-      let e₃ : o .user - 0 ≡ o .user = omega arith in
-      rw (e₁, e₂, e₃, filled-back (o .adminPin), filled-back (o .userPin));
+  logins-are = λ w.
+      let e : o w .limit - 0 ≡ o w .limit = omega arith in
+      rw (at-which (λ v. credentialOf (o v .value) (full-tries (o v .limit))) w, zero-at (numberOf w) howMany, e, filled-back (o w .value));
   challenge-is = refl;
+  labels-are = record { count-is = refl; each-is = tt };
 }
 
 pub follows : (o : Order) (area : List ℕ) (es : List Event) → Served o area → Agree (after o area es .card) (ledger o es)

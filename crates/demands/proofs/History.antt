@@ -8,70 +8,95 @@ use native.Mathlib.Omega.{arith}
 use lib.ListN.{length}
 use lib.Dec.{eqb, leb}
 use borrow.Author.Tests.{eqb-true, eqb-false, not-true}
+use Rattle.files.specs.declared.File.{File}
 use Rattle.files.specs.declared.Directory.{Directory}
-use Rattle.files.specs.declared.Located.{Located}
-use Rattle.files.specs.Part.{over}
+use Rattle.files.specs.State.{emptied}
+use Rattle.files.specs.Part.{over, zeros, splice}
 use Rattle.files.specs.Types.{size}
-use Rattle.files.specs.Rights.{never, marked, asks, allowed}
-use Rattle.files.specs.Directory.{start, extent, isPlace, inArea}
-use Rattle.files.specs.Words.{isZero}
-use Rattle.files.specs.Create.{areaSize, created}
+use Rattle.files.specs.Rights.{never, asks, allowed}
+use Rattle.files.specs.Directory.{used, start, extent, isPlace, inArea}
+use Rattle.files.specs.Record.{bytesUsed}
+use Rattle.files.specs.Words.{isZero, two}
+use Rattle.files.specs.Create.{areaSize, created, creates}
 use Rattle.files.proofs.Checks.{each, both, split}
 use Rattle.files.proofs.Parts.{part-apart}
 use Rattle.files.proofs.Extents.{place-is, lies}
-use Rattle.files.proofs.Kept.{lies-in-area}
+use Rattle.files.proofs.Kept.{filed, lies-in-area}
+use Rattle.files.proofs.Stays.{new-file, new-zero}
 use Rattle.rules.specs.declared.Card.{Card}
 use Rattle.rules.specs.declared.Ins.{Ins}
-use Rattle.rules.specs.declared.Ins.the-variants.{Select, ReadBinary, UpdateBinary, ReadRecord, UpdateRecord, AppendRecord, Verify, Authenticate, ChangePin, ReloadPin, CreateFile, GetChallenge, Unlisted}
-use Rattle.rules.specs.Words.{swBytes}
-use Rattle.rules.specs.State.{Which, device, admin, user, Logins}
-use Rattle.rules.specs.Frame.{Command, framed}
-use Rattle.rules.specs.List.{listed}
-use Rattle.rules.specs.Effect.{Effect}
-use Rattle.rules.specs.Binary.{fileOf}
-use Rattle.rules.specs.Pins.{pinNamed, compared}
-use Rattle.rules.specs.Create.{createChecks}
-use Rattle.rules.specs.Step.{addressed, checks, effectOf, outcome, settled, step}
+use Rattle.rules.specs.declared.Ins.the-variants.{CreateFile}
+use Rattle.rules.specs.Words.{first, same, swBytes}
+use Rattle.rules.specs.State.{Which, device, admin, user, Login, login}
+use Rattle.rules.specs.Frame.{Command, framed, frameSw, classSw}
+use Rattle.rules.specs.Effect.{Deed, turns, shows, stores, appends, makes, Touch, nothing, presents, changes, reloads, challenges, Effect}
+use Rattle.rules.specs.Binary.{fileOf, opens}
+use Rattle.rules.specs.Record.{recordFound}
+use Rattle.rules.specs.Create.{fileGiven, createChecks}
+use Rattle.rules.specs.List.{listed, Role, role, rule}
+use Rattle.rules.specs.Step.{did, touched, checks, effectOf, ruled, outcome, settled, step}
 use Rattle.rules.specs.Calls.{replySize, randomSize, answer, refused, served, command}
-use Rattle.rules.proofs.Checks.{Passed, holds, one-of, ruled-by}
+use Rattle.rules.proofs.Checks.{one-of}
 use Rattle.rules.proofs.Good.{sound-good, sound-parted}
 use Rattle.rules.proofs.Targets.{used-count, place-named}
-use Rattle.demands.specs.Ledger.{Event, sent, resets, Ledger, servable, ledger}
+use Rattle.demands.specs.Ledger.{Event, sent, resets, isHeld, Label, labelGiven, sizeOf, makeChecks, labelIn, Ledger, page, createSw, servable, ledger}
 use Rattle.demands.specs.Run.{World, world, called, after}
-use Rattle.demands.specs.Files.{writesTo, readsFrom, Opens, Written, Read, Writes, Stays, Altered, AlikeBut, SameBut, Shown, Made, Makes, Created}
+use Rattle.demands.specs.Files.{writesTo, readsFrom, labelOf, Labelled, FilesFollow, CreateAnswers, Opens, Written, Read, Writes, Stays, Altered, AlikeBut, SameBut, Shown, Made, Makes, Created}
+use Rattle.demands.proofs.Labels.{label-size, each-at, create-same}
+use Rattle.demands.proofs.Rows.{Fair, by-rule}
 use Rattle.demands.proofs.Soundness.{leaves, step-sound}
 use Rattle.demands.proofs.Live.{Live, after-live, command-served, command-is, reset-is}
 use Rattle.demands.proofs.Follows.{Agree, follows}
-use Rattle.demands.proofs.Files.{By, Kept, Treats, value-files, login-files, treats, treated-lengths}
+use Rattle.demands.proofs.Files.{By, Kept, Treats, compare-by, treats, treated-lengths}
 use Rattle.demands.proofs.Alike.{alike-splice, alike-part}
-use Rattle.demands.proofs.Others.{addressed-same, sound-same}
+use Rattle.demands.proofs.Others.{found-same, sound-same}
 
 -- a set bit's right is held
 asked-one : (bit : ℕ) (held : Bool) → asks bit held ≡ true → bit ≡ 1 → held ≡ true
 asked-one bit held h e = one-of (isZero bit) held h (λ z. absurd (omega (arith, e, eqb-true bit 0 z))) (λ z. z)
 
--- what the card allows the ledger opens
+-- what the card opens the ledger opens
 module _ (c : Card) (l : Ledger) (agree : Agree c l) where
-  opens : (right : ℕ) → allowed (c .session .rights) right ≡ true → Opens l right
+  held-told : (w : Which) → login w c .held ≡ true → isHeld (page w l .history) ≡ true
+  held-told w h = sym (ap (λ (x : Login). x .held) (agree .logins-are w)) ∙ h
+
+  opens-told : (right : ℕ) → opens c right ≡ true → Opens l right
   unfolding allowed
-  opens right h =
-      let rights = c .session .rights in
-      let e = each (not (eqb right never) ∷ asks (right / 128 % 2) (marked (rights .admin)) ∷ asks (right / 64 % 2) (marked (rights .user))
-      ∷ asks (right % 2) (marked (rights .device)) ∷ []) h in
+  opens-told right h =
+      let e = each (not (eqb right never) ∷ asks (right / 128 % 2) (login admin c .held) ∷ asks (right / 64 % 2) (login user c .held)
+      ∷ asks (right % 2) (login device c .held) ∷ []) h in
       record {
-        admin = λ q. sym (ap (λ (x : Logins). x .admin .held) (agree .logins-are)) ∙ asked-one _ _ (e .1 .0) q;
-        user = λ q. sym (ap (λ (x : Logins). x .user .held) (agree .logins-are)) ∙ asked-one _ _ (e .1 .1 .0) q;
-        device = λ q. sym (ap (λ (x : Logins). x .device .held) (agree .logins-are)) ∙ asked-one _ _ (e .1 .1 .1) q;
+        admin = λ q. held-told admin (asked-one _ _ (e .1 .0) q);
+        user = λ q. held-told user (asked-one _ _ (e .1 .1 .0) q);
+        device = λ q. held-told device (asked-one _ _ (e .1 .1 .1) q);
         not-never = λ q. eqb-false right never (not-true (eqb right never) (e .0)) q;
       }
 
+-- the files of the card are those of the ledger
+module _ (c : Card) (area : List ℕ) (live : Live (world c area)) (l : Ledger) (agree : Agree c l) where
+  used-made : used (c .directory) ≡ length (l .labels)
+  used-made = used-count (c .directory) (sound-good c area (live .sound-card) .directory) ∙ agree .labels-are .count-is
+
+  pub labels-told : Labelled c l
+  labels-told = record {
+    count-is = agree .labels-are .count-is;
+    label-is = λ place here.
+        let e = place-is (c .directory) place here in
+        each-at (c .directory .files) (l .labels) place (e .0) (rw (← used-made) (e .1)) (agree .labels-are .each-is);
+  }
+
+  -- a right of a file is that of its label
+  right-told : (place : ℕ) → isPlace (c .directory) place ≡ true → (right : Label → ℕ) → opens c (right (labelOf (fileOf c place))) ≡ true
+      → Opens l (right (labelIn (l .labels) place))
+  right-told place here right h = rw (← labels-told .label-is place here) (opens-told c l agree _ h)
+
 -- one served command
 module _ (c : Card) (area cmd random : List ℕ) (live : Live (world c area)) (place : ℕ) (here : isPlace (c .directory) place ≡ true) where
-  abbrev i : Ins
-  i = listed (framed cmd)
+  abbrev r : Role
+  r = role (listed (framed cmd))
 
   abbrev e : Effect
-  e = outcome (listed (framed cmd)) c (addressed (listed (framed cmd)) c area (framed cmd)) (framed cmd) random
+  e = outcome (listed (framed cmd)) c (recordFound c area (framed cmd)) (framed cmd) random
 
   some : 1 ≤ place
   some = place-is (c .directory) place here .0
@@ -79,8 +104,8 @@ module _ (c : Card) (area cmd random : List ℕ) (live : Live (world c area)) (p
   low : place ≤ c .directory .count
   low = rw (← used-count (c .directory) (sound-good c area (live .sound-card) .directory)) (place-is (c .directory) place here .1)
 
-  treated : Treats c area place (listed (framed cmd)) (framed cmd) (outcome (listed (framed cmd)) c (addressed (listed (framed cmd)) c area (framed cmd)) (framed cmd) random)
-  treated = treats c area (live .sound-card) place some low (framed cmd) random (listed (framed cmd))
+  treated : Treats c area place r (framed cmd) (outcome (listed (framed cmd)) c (recordFound c area (framed cmd)) (framed cmd) random)
+  treated = treats c area (live .sound-card) place some low (framed cmd) (listed (framed cmd)) random
 
   fits : (bytes : List ℕ) → length bytes ≡ areaSize → e .into + length (e .stores) ≤ length bytes
   fits bytes q = rw q (leaves c area (live .sound-card) (framed cmd) random (listed (framed cmd)) .stored)
@@ -88,7 +113,7 @@ module _ (c : Card) (area cmd random : List ℕ) (live : Live (world c area)) (p
   abbrev stepped : World
   stepped = world (step c area cmd random .card) (step c area cmd random .area)
 
-  pub step-alters : length random ≡ randomSize → Stays (world c area) stepped place ⊎ By c place (writesTo (listed (framed cmd)) c (framed cmd)) (λ f. f .write)
+  pub step-alters : length random ≡ randomSize → Stays (world c area) stepped place ⊎ By c place (writesTo r c (framed cmd)) (λ f. f .write)
   unfolding step settled extent
   step-alters l =
       ⊎-elim
@@ -108,10 +133,10 @@ module _ (c : Card) (area cmd random : List ℕ) (live : Live (world c area)) (p
 
     pub step-same : (reply : List ℕ)
         → SameBut place (served (step c area cmd random) reply) (served (step c other cmd random) reply)
-        ⊎ By c place (readsFrom (listed (framed cmd)) c (framed cmd)) (λ f. f .read)
+        ⊎ By c place (readsFrom r c (framed cmd)) (λ f. f .read)
     unfolding step settled
     step-same reply =
-        rw (← addressed-same c area other place (live .sound-card) here alike (listed (framed cmd)) (framed cmd))
+        rw (← found-same c area other place (live .sound-card) here alike (framed cmd))
         (⊎-elim
         (λ a. let bytes = alike-part (start (c .directory) place) (size (fileOf c place)) area other (alike .but-bytes) (e .from) (e .shows) a in
         inl (record {
@@ -122,7 +147,7 @@ module _ (c : Card) (area cmd random : List ℕ) (live : Live (world c area)) (p
                 rw (treated .start-is, treated .size-is)
                 (alike-splice (start (c .directory) place) (size (fileOf c place)) area other (alike .but-bytes) (e .into) (e .stores) (fits area (live .size-is)));
             lengths-are =
-                treated-lengths c area place (listed (framed cmd)) (framed cmd) e treated (lies (c .directory) place (length area) here-in .fits)
+                treated-lengths c area place r (framed cmd) e treated (lies (c .directory) place (length area) here-in .fits)
                 (fits area (live .size-is)) other (sym (alike .but-bytes .length-is)) (alike .lengths-are);
           };
         }))
@@ -135,7 +160,7 @@ module _ (c : Card) (area : List ℕ) (live : Live (world c area)) (l : Ledger) 
   call-alters (sent cmd random reply) place here =
       rw (command-is c area live cmd random reply)
       (split (λ v. Stays (world c area) v place ⊎ Written c l cmd place) (servable random reply)
-      (λ q. ⊎-elim inl (λ b. inr (record { addressed = b .0; by-right = opens c l agree _ (b .1) }))
+      (λ q. ⊎-elim inl (λ b. inr (record { addressed = b .0; by-right = right-told c area live l agree place here (λ x. x .write) (b .1) }))
       (step-alters c area cmd random live place here (eqb-true _ _ (both (leb replySize (length reply)) (eqb (length random) randomSize) q .1))))
       (λ q. inl (record { there = here; file-is = refl; bytes-are = refl })))
   call-alters resets place here =
@@ -154,10 +179,33 @@ module _ (c : Card) (area : List ℕ) (live : Live (world c area)) (l : Ledger) 
           (cond a (cond b (served (step c other cmd random) reply) (refused 3 c other reply)) (refused 1 c other reply))
           ⊎ Read c l cmd place
       go true true =
-          ⊎-elim inl (λ b. inr (record { addressed = b .0; by-right = opens c l agree _ (b .1) }))
+          ⊎-elim inl (λ b. inr (record { addressed = b .0; by-right = right-told c area live l agree place here (λ x. x .read) (b .1) }))
           (step-same c area cmd random live place here other alike reply)
       go true false = inl (record { answer-is = refl; reply-is = refl; areas = alike })
       go false b = inl (record { answer-is = refl; reply-is = refl; areas = alike })
+
+pub files-follow : FilesFollow
+files-follow o area es h = labels-told _ _ (after-live o area es h) (ledger o es) (follows o area es h)
+
+-- the status word of a rule is that of its checks, where what it does answers 9000
+ruled-sw : (sw : ℕ) (c : Card) (e : Effect) → e .sw ≡ 0x9000 → ruled sw c e .sw ≡ sw
+ruled-sw sw c e h = split (λ (x : Effect). x .sw ≡ sw) (eqb sw 0x9000) (λ q. h ∙ sym (eqb-true sw 0x9000 q)) (λ q. refl)
+
+-- what CREATE FILE asks of the card it asks of the ledger
+asked-told : (c : Card) (area : List ℕ) → Live (world c area) → (l : Ledger) → Agree c l → (cmd random : List ℕ) → listed (framed cmd) ≡ CreateFile
+    → step c area cmd random .sw ≡ createSw l (framed cmd)
+unfolding step settled outcome checks effectOf rule
+asked-told c area live l agree cmd random e =
+    let k = framed cmd in
+    let few = filed (c .directory) (sound-good c area (live .sound-card) .directory) .few in
+    let asked = create-same c few (l .labels) (agree .labels-are) k in
+    let held = ap (λ (x : Login). makeChecks (x .held) (l .labels) k) (agree .logins-are device) in
+    rw e
+    (ruled-sw (first (frameSw k ∷ classSw k ∷ first (createChecks c k) ∷ [])) c (did c (makes (fileGiven k))) refl
+    ∙ ap (λ (t : List ℕ). first (frameSw k ∷ classSw k ∷ first t ∷ [])) (asked ∙ held))
+
+pub create-answers : CreateAnswers
+create-answers o area es h cmd random e = asked-told _ _ (after-live o area es h) (ledger o es) (follows o area es h) cmd random e
 
 pub altered : Altered
 altered o area es h e place here =
@@ -167,47 +215,71 @@ pub shown : Shown
 shown o area es h cmd random reply other place here alike =
     call-shows _ _ (after-live o area es h) (ledger o es) (follows o area es h) cmd random reply other place here alike
 
--- how many files an effect leaves
-module _ (c : Card) (l : Located) (k : Command) (random : List ℕ) where
-  -- as many, or one more by CREATE FILE with the device right
-  abbrev Counts : Ins → Effect → Type 0
-  Counts i e =
-      (e .card .directory .count ≡ c .directory .count)
-      ⊎ ((i ≡ CreateFile) × (marked (c .session .rights .device) ≡ true) × (e .card .directory .count ≡ c .directory .count + 1))
+-- the next file, with all that CREATE FILE says of it
+record New (i : Ins) (c : Card) (area : List ℕ) (k : Command) (e : Effect) : Type 0 where
+  by-create : i ≡ CreateFile
+  held : login device c .held ≡ true
+  one-more : e .card .directory .count ≡ c .directory .count + 1
+  file-is : (f : File) × ((fileOf (e .card) (c .directory .count + 1) ≡ emptied f) × (labelOf f ≡ labelGiven k))
+  bytes-are : extent (e .card .directory) (c .directory .count + 1) (splice area (e .into) (e .stores)) ≡ zeros (sizeOf (labelGiven k))
 
-  same-count : {d : Directory} → d ≡ c .directory → d .count ≡ c .directory .count
-  same-count q = ap (λ (x : Directory). x .count) q
+one-count : (d : Directory) (f : File) → created d f .count ≡ d .count + 1
+unfolding created
+one-count d f = refl
 
-  compare-counts : (i : Ins) (w : Which) (agrees : Bool) → Counts i (compared w c agrees)
-  unfolding compared
-  compare-counts i w agrees =
-      split (Counts i) agrees (λ e. inl (same-count (login-files c w _ true))) (λ e. inl (same-count (login-files c w _ false)))
+-- an effect leaves as many files, or one more
+abbrev Counts : Ins → Card → List ℕ → Command → Effect → Type 0
+Counts i c area k e = (e .card .directory .count ≡ c .directory .count) ⊎ New i c area k e
 
-  count-row : (i : Ins) → Passed (checks i c l k) → Counts i (effectOf i c l k random)
-  unfolding checks effectOf createChecks created
-  count-row Select p = inl refl
-  count-row ReadBinary p = inl refl
-  count-row UpdateBinary p = inl refl
-  count-row ReadRecord p = inl refl
-  count-row UpdateRecord p = inl refl
-  count-row AppendRecord p = inl refl
-  count-row Verify p = split (Counts Verify) (eqb (k .case) 1) (λ e. inl refl) (λ e. compare-counts Verify (pinNamed k) _)
-  count-row Authenticate p = compare-counts Authenticate device _
-  count-row ChangePin p = inl (same-count (value-files c (pinNamed k) (k .given)))
-  count-row ReloadPin p = inl refl
-  count-row CreateFile p = inr (refl, holds (marked (c .session .rights .device)) 0x6982 refl (p .1 .1 .0), refl)
-  count-row GetChallenge p = inl refl
-  count-row Unlisted p = inl refl
+module _ (i : Ins) (c : Card) (area : List ℕ) (live : Live (world c area)) (k : Command) where
+  deed-counts : (d : Deed) → Fair i c area k d → Counts i c area k (did c d)
+  deed-counts (turns place) q = inl refl
+  deed-counts (shows place at n) q = inl refl
+  deed-counts (stores place at bytes) q = inl refl
+  deed-counts (appends place bytes) q = inl refl
+  deed-counts (makes f) q =
+      let sixteen = filed (c .directory) (sound-good c area (live .sound-card) .directory) .places in
+      let served : creates (c .directory) f (length area) ≡ true = rw (live .size-is) (q .served) in
+      inr (record {
+        by-create = q .by-create;
+        held = q .held;
+        one-more = one-count (c .directory) f;
+        file-is = (f, (new-file (c .directory) f area sixteen served, q .given));
+        bytes-are = new-zero (c .directory) f area sixteen served ∙ ap zeros (label-size f ∙ ap sizeOf (q .given));
+      })
 
-  counts : (i : Ins) → Counts i (outcome i c l k random)
-  counts i = ruled-by (Counts i) i c l k random (count-row i) (λ sw. inl refl)
+  touch-counts : (t : Touch) (random : List ℕ) → Counts i c area k (touched c t random)
+  touch-counts nothing random = inl refl
+  touch-counts (presents w value given) random =
+      compare-by (Counts i c area k) w c (same value given) (λ sw x e. inl (ap (λ (d : Directory). d .count) e))
+  touch-counts (changes w d) random = inl refl
+  touch-counts (reloads w d) random = inl refl
+  touch-counts (challenges n) random = inl refl
 
-step-counts : (c : Card) (area cmd random : List ℕ)
+step-counts : (c : Card) (area cmd random : List ℕ) → Live (world c area)
+    → Counts (listed (framed cmd)) c area (framed cmd) (outcome (listed (framed cmd)) c (recordFound c area (framed cmd)) (framed cmd) random)
+step-counts c area cmd random live =
+    let i = listed (framed cmd) in
+    by-rule (Counts i c area (framed cmd)) i c area (live .sound-card) (framed cmd) random (deed-counts i c area live (framed cmd))
+    (λ t q. touch-counts i c area live (framed cmd) t random) (λ sw. inl refl)
+
+-- the step's card and area are those of its effect
+step-makes : (l : Ledger) (c : Card) (area cmd random : List ℕ) → Live (world c area) → Agree c l
     → (step c area cmd random .card .directory .count ≡ c .directory .count)
-    ⊎ ((listed (framed cmd) ≡ CreateFile) × (marked (c .session .rights .device) ≡ true)
-    × (step c area cmd random .card .directory .count ≡ c .directory .count + 1))
-unfolding step settled
-step-counts c area cmd random = counts c (addressed (listed (framed cmd)) c area (framed cmd)) (framed cmd) random (listed (framed cmd))
+    ⊎ Made l (world c area) (world (step c area cmd random .card) (step c area cmd random .area)) cmd
+unfolding step settled bytesUsed
+step-makes l c area cmd random live agree =
+    ⊎-elim inl
+    (λ m. inr (record {
+      by-create = m .by-create;
+      device-held = held-told c l agree device (m .held);
+      one-more = m .one-more;
+      label-is = ap labelOf (m .file-is .1 .0) ∙ m .file-is .1 .1;
+      bytes-are = m .bytes-are;
+      none-held = ap (λ (f : File). f .held) (m .file-is .1 .0);
+      none-used = ap (λ (f : File). two (f .used1) (f .used2)) (m .file-is .1 .0);
+    }))
+    (step-counts c area cmd random live)
 
 pub files-created : Created
 files-created o area es h e = go e (after-live o area es h) (follows o area es h)
@@ -220,12 +292,6 @@ files-created o area es h e = go e (after-live o area es h) (follows o area es h
         (split
         (λ (v : World). (v .card .directory .count ≡ after o area es .card .directory .count) ⊎ Made (ledger o es) (after o area es) v cmd)
         (servable random reply)
-        (λ q. ⊎-elim inl
-        (λ m. inr (record {
-          by-create = m .0;
-          device-held = sym (ap (λ (x : Logins). x .device .held) (agree .logins-are)) ∙ m .1;
-          one-more = m .2;
-        }))
-        (step-counts (after o area es .card) (after o area es .area) cmd random))
+        (λ q. step-makes (ledger o es) (after o area es .card) (after o area es .area) cmd random live agree)
         (λ q. inl refl))
     go resets live agree = inl (ap (λ (x : Card). x .directory .count) (reset-is (after o area es .card) (after o area es .area) live))

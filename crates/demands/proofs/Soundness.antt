@@ -1,57 +1,49 @@
--- The proofs of `specs/Soundness`: one clause for each command, and from it the calls.
+-- The proofs of `specs/Soundness`: of what a command does, and from it of the calls.
 use Prim.Native.Nat.{ℕ, _+_, _-_, _≤_, _<_}
-use mathlib.Core.Bool.{Bool, true, false}
-use mathlib.Core.List.{List, [], _∷_, _++_}
+use mathlib.Core.Bool.{true, false}
+use mathlib.Core.List.{List, [], _∷_, _++_, map}
 use mathlib.Core.Logic.{by-cases}
-use mathlib.Core.Path.{_≡_, refl, sym, ap, _∙_}
+use mathlib.Core.Path.{_≡_, refl, sym, _∙_}
 use native.Mathlib.Decide.{decLe}
 use native.Mathlib.Nat.{le-refl}
 use native.Mathlib.Omega.{arith}
 use lib.ListN.{length, length-append, length-take, length-drop, length-replicate}
 use lib.Seq.{length-take-le}
-use lib.Dec.{eqb}
-use borrow.Author.Tests.{eq-eqb, eqb-true}
-use Rattle.files.specs.Words.{isZero}
-use Rattle.files.specs.declared.Directory.{Directory}
-use Rattle.files.specs.declared.Located.{Located}
+use borrow.Author.Tests.{eq-eqb}
+use Rattle.files.specs.declared.File.{File}
+use Rattle.files.specs.Words.{allBelow, isZero}
 use Rattle.files.specs.Part.{part, splice, over, zeros}
 use Rattle.files.specs.State.{emptied}
-use Rattle.files.specs.Types.{size}
 use Rattle.files.specs.Directory.{start, extent, used}
-use Rattle.files.specs.Record.{nextStart, entry, partedFile}
+use Rattle.files.specs.Record.{partedFile}
 use Rattle.files.specs.Create.{areaSize, created}
 use Rattle.files.proofs.Parts.{splice-length}
 use Rattle.files.proofs.Checks.{each, split}
 use Rattle.files.proofs.Extents.{file-set, used-is, place-is, lies}
 use Rattle.files.proofs.Appends.{cyclic-room}
-use Rattle.files.proofs.Served.{binary-fits}
-use Rattle.files.proofs.Making.{makes}
+use Rattle.files.proofs.Making.{makes as made-in}
 use Rattle.files.proofs.Kept.{PartedIn, filed, sound-append, sound-created, new-parted, lies-in-area, place-parted, parted-none, parted-in}
 use Rattle.rules.specs.declared.Card.{Card}
 use Rattle.rules.specs.declared.Ins.{Ins}
-use Rattle.rules.specs.declared.Ins.the-variants.{Select, ReadBinary, UpdateBinary, ReadRecord, UpdateRecord, AppendRecord, Verify, Authenticate, ChangePin, ReloadPin, CreateFile, GetChallenge, Unlisted}
 use Rattle.rules.specs.Words.{same, byte, swBytes}
 use Rattle.rules.specs.Tries.{goodLimit}
-use Rattle.rules.specs.State.{Which, device, user, login, challenge, blankCard, withValue}
-use Rattle.rules.specs.Sound.{goodPin, soundPin, soundState, sound}
-use Rattle.rules.specs.Frame.{Command, framed, lc}
-use Rattle.rules.specs.List.{listed}
-use Rattle.rules.specs.Effect.{Effect, answers, shows, stores}
-use Rattle.rules.specs.Binary.{target, fileOf, offset, binaryTarget, readCount, readBinaryChecks, updateBinaryChecks}
-use Rattle.rules.specs.Record.{recordTarget, recordFound, readRecordChecks, updateRecordChecks, appendChecks}
-use Rattle.rules.specs.Pins.{pinNamed, pinGiven, compared, changeChecks, reloadChecks}
-use Rattle.rules.specs.Device.{cryptogram}
-use Rattle.rules.specs.Create.{fileGiven}
-use Rattle.rules.specs.Step.{addressed, checks, effectOf, outcome, settled, step}
-use Rattle.rules.specs.Calls.{Order, goodOrder, fresh, cleared, answer, refused, issued}
+use Rattle.rules.specs.State.{Which, numberOf, login, logins, blankCard, withCurrent, withValue}
+use Rattle.rules.specs.Sound.{isKey, goodPin, goodValue, soundValue, soundCredential, soundState, sound}
+use Rattle.rules.specs.Frame.{Command, framed}
+use Rattle.rules.specs.Effect.{Deed, turns, shows, stores, appends, makes, Touch, nothing, presents, changes, reloads, challenges, Effect, answers, storing}
+use Rattle.rules.specs.Binary.{fileOf}
+use Rattle.rules.specs.Record.{recordFound}
+use Rattle.rules.specs.Pins.{comparedAt}
+use Rattle.rules.specs.List.{listed, role}
+use Rattle.rules.specs.Step.{did, touched, outcome, settled, step}
+use Rattle.rules.specs.Calls.{Order, goodGiven, goodOrder, fresh, cleared, answer, refused, issued}
 use Rattle.demands.specs.Soundness.{Bytes, StepSound, CyclicRoom, StepArea, StepReply, CommandSound, CommandArea, CommandReply, CommandCount, CommandServed, ResetSound, ResetServed, IssueServed, IssueArea, BlankUnsound, CommandRefused, ResetRefused, IssueRefused}
-use Rattle.rules.proofs.Checks.{Passed, holds, either, ruled-by}
+use Rattle.rules.proofs.Checks.{either}
 use Rattle.demands.proofs.Calls.{called-by, reset-by, issued-by}
-use Rattle.rules.proofs.Good.{Good, sound-good, sound-parted, sound-both, tried-full, tried-lowered, pin-sound, sayable, said-short, placed, turned, tried-in, logged, valued, challenged, ended, made}
-use Rattle.rules.proofs.Targets.{read-few, used-count, place-named, place-held, place-run, target-low, selected-low}
-use Rattle.rules.proofs.Asked.{some-file, binary-asked, create-asked, pin-asked, challenge-asked}
-use Rattle.rules.proofs.Found.{read-fits, read-long, update-fits, appends, append-fits}
-use Rattle.demands.proofs.Files.{value-files, login-files, treats, treated-parted}
+use Rattle.rules.proofs.Good.{Good, for-which, sound-good, sound-parted, sound-both, tried-full, tried-lowered, value-sound, sayable, said-short, placed, turned, tried-in, logged, valued, challenged, ended, made}
+use Rattle.rules.proofs.Targets.{used-count, place-named, place-held, place-run}
+use Rattle.demands.proofs.Rows.{FairStore, Fair, FairTouch, by-rule}
+use Rattle.demands.proofs.Files.{treats, treated-parted}
 
 -- what the effect of a command leaves: a sound card, whose new file is parted; a challenge said or nothing; what it shows and what it stores lie in the
 -- area
@@ -77,119 +69,85 @@ module _ (c : Card) (area : List ℕ) (h : sound c area ≡ true) (k : Command) 
   leaves-card sw x gx q =
       record { card = gx; new = none-new x q; said = λ l. refl; few = λ l m. omega arith; shown = omega arith; stored = omega arith }
 
-  -- of the file of a place
-  module _ (x : Card) (gx : Good x) (q : x .directory .count ≡ c .directory .count) (place a : ℕ) (some : 1 ≤ place) (low : place ≤ c .directory .count) where
-    leaves-shown : (n : ℕ) → a + n ≤ size (fileOf c place) → (k .le ≤ 256 → n ≤ 256)
-        → Leaves c k random (shows x (start (c .directory) place + a) n)
-    leaves-shown n fits few = record {
-      card = gx;
-      new = none-new x q;
-      said = λ l. refl;
-      few = λ l m. omega (arith, few m);
-      shown = place-run (c .directory) (g .directory) place some low a n fits;
-      stored = omega arith;
-    }
+  leaves-stored : (x : Card) → Good x → x .directory .count ≡ c .directory .count → {named place at : ℕ} {f : File} {d : List ℕ}
+      → FairStore c area named place at f d → Leaves c k random (storing x (start (c .directory) place + at) d)
+  leaves-stored x gx e {named} {place} {at} {f} {d} q = record {
+    card = gx;
+    new = none-new x e;
+    said = λ l. refl;
+    few = λ l m. omega arith;
+    shown = omega arith;
+    stored = place-run (c .directory) (g .directory) place (q .entitled .some) (q .entitled .low) at (length d) (q .fits);
+  }
 
-    leaves-stored : (d : List ℕ) → a + length d ≤ size (fileOf c place) → Leaves c k random (stores x (start (c .directory) place + a) d)
-    leaves-stored d fits = record {
-      card = gx;
-      new = none-new x q;
-      said = λ l. refl;
-      few = λ l m. omega arith;
-      shown = omega arith;
-      stored = place-run (c .directory) (g .directory) place some low a (length d) fits;
-    }
-
-  compares : (w : Which) (agrees : Bool) → Leaves c k random (compared w c agrees)
-  unfolding compared
-  compares w agrees =
-      split (Leaves c k random) agrees
-      (λ e. leaves-card _ _ (logged c g w _ true (tried-full (login w c .tries .limit) true (tried-in c g w .limit))) (ap (λ (d : Directory). d .count) (login-files c w _ true)))
-      (λ e. leaves-card _ _ (logged c g w _ false (tried-lowered _ _ (tried-in c g w))) (ap (λ (d : Directory). d .count) (login-files c w _ false)))
-
-  -- the file that a binary command addresses, and that of a record command
-  abbrev b : ℕ
-  b = binaryTarget c k
-
-  abbrev t : ℕ
-  t = recordTarget c k
-
-  low : (sfi : ℕ) → target c sfi ≤ c .directory .count
-  low = target-low c g
-
-  abbrev l : Located
-  l = recordFound c area k
-
-  row : (i : Ins) → Passed (checks i c (addressed i c area k) k) → Leaves c k random (effectOf i c (addressed i c area k) k random)
-  unfolding addressed checks effectOf readBinaryChecks updateBinaryChecks readRecordChecks updateRecordChecks appendChecks changeChecks reloadChecks created
-  row Select p = leaves-card _ _ (turned c g _ (selected-low c g k)) refl
-  row ReadBinary p =
-      let n = readCount (fileOf c b) k in
-      leaves-shown _ (turned c g _ (low _)) refl b (offset k) (some-file b (p .1 .1 .0)) (low _) n
-      (binary-fits _ (offset k) n (binary-asked c b _ (offset k) n (p .1 .1))) (read-few (fileOf c b) k)
-  row UpdateBinary p =
-      leaves-stored _ (turned c g _ (low _)) refl b (offset k) (some-file b (p .1 .1 .0)) (low _) (k .given)
-      (binary-fits _ (offset k) (lc k) (binary-asked c b _ (offset k) (lc k) (p .1 .1)))
-  row ReadRecord p =
-      let some = some-file t (p .1 .1 .0) in
-      let long = read-long c area h k some p in
-      leaves-shown _ (turned c g _ (low _)) refl t (l .start) some (low _) (l .length) (read-fits c area h k some p) (λ m. omega (arith, long))
-  row UpdateRecord p =
-      let some = some-file t (p .1 .1 .0) in
-      leaves-stored _ (turned c g _ (low _)) refl t (l .start) some (low _) (k .given) (update-fits c area h k some p)
-  row AppendRecord p =
-      let some = some-file t (p .1 .1 .0) in
-      let asked = appends c area h k some p in
-      let kept = sound-append (c .directory) t (lc k) (g .directory) (place-named (c .directory) (g .directory) t some (low _)) asked in
-      leaves-stored _ (placed c g _ t kept (low _)) refl t (nextStart (fileOf c t)) some (low _) (entry (fileOf c t) (k .given)) (append-fits c area h k some p)
-  row Verify p =
-      split (Leaves c k random) (eqb (k .case) 1) (λ e. leaves-card _ c g refl)
-      (λ e. compares (pinNamed k) (same (login (pinNamed k) c .value) (k .given)))
-  row Authenticate p = compares device (same (cryptogram (login device c .value) (challenge c)) (k .given))
-  row ChangePin p =
-      leaves-card _ _ (valued c g (isZero (k .p2)) (k .given) (pin-asked k (holds (pinGiven k) 0x6700 refl (p .1 .0)) (p .1 .1 .1 .0)))
-      (ap (λ (d : Directory). d .count) (value-files c (pinNamed k) (k .given)))
-  row ReloadPin p =
-      let value = valued c g false (k .given) (pin-asked k (holds (pinGiven k) 0x6700 refl (p .1 .0)) (p .1 .1 .1 .0)) in
-      leaves-card _ _ (logged (withValue user c (k .given)) value user _ false (tried-full (c .user .tries .limit) false (g .user .tries .limit))) refl
-  row CreateFile p =
-      let asked = create-asked c k p in
-      record {
-        card = placed c g _ (c .directory .count + 1) (sound-created (c .directory) (fileGiven k) 4096 (g .directory) asked) (le-refl _);
-        new = λ place l m x. one-new place l m x;
-        said = λ l. refl;
-        few = λ l m. omega arith;
-        shown = omega arith;
-        stored = simp length-replicate (makes (c .directory) (fileGiven k) 4096 asked .fits);
-      }
+  deed-leaves : (i : Ins) (x : Deed) → Fair i c area k x → Leaves c k random (did c x)
+  unfolding created
+  deed-leaves i (turns place) q = leaves-card _ _ (turned c g place q) refl
+  deed-leaves i (shows place at n) q = record {
+    card = turned c g place (q .entitled .low);
+    new = none-new (withCurrent c place) refl;
+    said = λ l. refl;
+    few = λ l m. omega (arith, q .few m);
+    shown = place-run (c .directory) (g .directory) place (q .entitled .some) (q .entitled .low) at n (q .fits);
+    stored = omega arith;
+  }
+  deed-leaves i (stores place at d) q = leaves-stored _ (turned c g place (q .entitled .low)) refl q
+  deed-leaves i (appends place d) q =
+      let low = q .fair .entitled .low in
+      let named = place-named (c .directory) (g .directory) place (q .fair .entitled .some) low in
+      leaves-stored _ (placed c g _ place (sound-append (c .directory) place (length d) (g .directory) named (q .served)) low) refl (q .fair)
+  deed-leaves i (makes f) q = record {
+    card = placed c g _ (c .directory .count + 1) (sound-created (c .directory) f 4096 (g .directory) (q .served)) (le-refl _);
+    new = one-new;
+    said = λ l. refl;
+    few = λ l m. omega arith;
+    shown = omega arith;
+    stored = simp length-replicate (made-in (c .directory) f 4096 (q .served) .fits);
+  }
     where
       one-new : (place : ℕ) → c .directory .count < place → place ≤ c .directory .count + 1 → (x : List ℕ)
-          → partedFile (fileOf (effectOf CreateFile c (addressed CreateFile c area k) k random .card) place) x ≡ true
+          → partedFile (fileOf (did c (makes f) .card) place) x ≡ true
       one-new place lo hi x =
           let w = filed (c .directory) (g .directory) in
-          let few = makes (c .directory) (fileGiven k) 4096 (create-asked c k p) .few in
+          let few = made-in (c .directory) f 4096 (q .served) .few in
           let e : place - 1 ≡ c .directory .count = omega arith in
-          rw (e, file-set (c .directory .files) (c .directory .count) (emptied (fileGiven k)) (omega (arith, w .places, few))) (new-parted (fileGiven k) x)
-  row GetChallenge p =
-      let asked = either (isZero (k .le)) (challenge-asked k p) in
-      let short : k .le ≤ 16 = said-short (k .le) asked in
+          rw (e, file-set (c .directory .files) (c .directory .count) (emptied f) (omega (arith, w .places, few))) (new-parted f x)
+
+  -- a good PIN for a credential that is no key
+  pin-valued : (w : Which) (d : List ℕ) → isKey (numberOf w) ≡ false → goodPin d ≡ true → Good (withValue w c d)
+  unfolding goodValue
+  pin-valued w d e p = valued c g w d (rw e p)
+
+  touch-leaves : (t : Touch) → FairTouch (logins c) t → Leaves c k random (touched c t random)
+  unfolding comparedAt
+  touch-leaves nothing q = leaves-card _ c g refl
+  touch-leaves (presents w value given) q =
+      split (Leaves c k random) (same value given)
+      (λ e. leaves-card _ _ (logged c g w _ true (tried-full (login w c .tries .limit) true (tried-in c g w .limit))) refl)
+      (λ e. leaves-card _ _ (logged c g w _ false (tried-lowered _ _ (tried-in c g w))) refl)
+  touch-leaves (changes w d) q = leaves-card _ _ (pin-valued w d (q .0) (q .2)) refl
+  touch-leaves (reloads w d) q =
+      let value = pin-valued w d (rw (q .0) refl) (q .2) in
+      leaves-card _ _ (logged (withValue w c d) value w _ false (tried-full (login w c .tries .limit) false (tried-in c g w .limit))) refl
+  touch-leaves (challenges n) q =
+      let asked = either (isZero n) q in
+      let short : n ≤ 16 = said-short n asked in
       record {
         card = g;
         new = none-new c refl;
-        said = λ l. rw (length-take-le (k .le) random (omega arith)) asked;
-        few = λ l m. rw (length-take-le (k .le) random (omega arith)) (omega arith);
+        said = λ l. rw (length-take-le n random (omega arith)) asked;
+        few = λ l m. rw (length-take-le n random (omega arith)) (omega arith);
         shown = omega arith;
         stored = omega arith;
       }
-  row Unlisted p = leaves-card _ c g refl
 
-  pub leaves : (i : Ins) → Leaves c k random (outcome i c (addressed i c area k) k random)
-  leaves i = ruled-by (Leaves c k random) i c (addressed i c area k) k random (row i) (λ sw. leaves-card sw c g refl)
+  pub leaves : (i : Ins) → Leaves c k random (outcome i c (recordFound c area k) k random)
+  leaves i = by-rule (Leaves c k random) i c area h k random (deed-leaves i) touch-leaves (λ sw. leaves-card sw c g refl)
 
 -- of one step: every file that was there stays parted, and so is a new one
 module _ (c : Card) (area cmd random : List ℕ) (h : sound c area ≡ true) (size-is : length area ≡ areaSize) where
   abbrev e : Effect
-  e = outcome (listed (framed cmd)) c (addressed (listed (framed cmd)) c area (framed cmd)) (framed cmd) random
+  e = outcome (listed (framed cmd)) c (recordFound c area (framed cmd)) (framed cmd) random
 
   left : Leaves c (framed cmd) random e
   left = leaves c area h (framed cmd) random (listed (framed cmd))
@@ -211,7 +169,7 @@ module _ (c : Card) (area cmd random : List ℕ) (h : sound c area ≡ true) (si
       old place some low =
           let named = place-named (c .directory) (sound-good c area h .directory) place some low in
           let here = lies-in-area (c .directory) area (sound-parted c area h) place named in
-          treated-parted c area place (listed (framed cmd)) (framed cmd) e (treats c area h place some low (framed cmd) random (listed (framed cmd)))
+          treated-parted c area place (role (listed (framed cmd))) (framed cmd) e (treats c area h place some low (framed cmd) (listed (framed cmd)) random)
           (lies (c .directory) place (length area) here .fits) inside (place-parted (c .directory) area (sound-parted c area h) place named)
 
 pub step-sound : StepSound
@@ -287,15 +245,16 @@ reset-served c area =
 pub reset-refused : ResetRefused
 reset-refused c area = reset-by (λ a. (a .outcome ≡ 0 → ⊥) → a ≡ answer (a .outcome) c 0) c area (λ z e q. absurd (q refl)) (λ o n q. refl)
 
-fresh-good : (o : Order) → goodOrder o ≡ true → Good (fresh o)
+-- each of the order's credentials
+given-good : (o : Order) → goodOrder o ≡ true → (w : Which) → goodGiven (numberOf w) (o w) ≡ true
 unfolding goodOrder
+given-good o h w = for-which (λ v. goodGiven (numberOf v) (o v)) h w
+
+fresh-good : (o : Order) → goodOrder o ≡ true → Good (fresh o)
 fresh-good o h =
-    let e = each (eqb (length (o .key)) 16 ∷ goodLimit (o .device) ∷ goodPin (o .adminPin) ∷ goodLimit (o .admin) ∷ goodPin (o .userPin)
-    ∷ goodLimit (o .user) ∷ []) h in
-    made _ _ _
-    (record { bytes = eqb-true _ _ (e .0); tries = tried-full (o .device) false (e .1 .0) })
-    (record { pin = pin-sound (o .adminPin) _ (e .1 .1 .0); tries = tried-full (o .admin) false (e .1 .1 .1 .0) })
-    (record { pin = pin-sound (o .userPin) _ (e .1 .1 .1 .1 .0); tries = tried-full (o .user) false (e .1 .1 .1 .1 .1) })
+    made _
+    (λ w. let e = each (goodValue (numberOf w) (o w .value) ∷ goodLimit (o w .limit) ∷ []) (given-good o h w) in
+    record { value = value-sound (o w .value) (numberOf w) (e .0) _; tries = tried-full (o w .limit) false (e .1); low = omega arith })
 
 pub issue-served : IssueServed
 issue-served o area =
@@ -311,5 +270,5 @@ issue-refused o area =
     (λ a e z. absurd (z refl)) (λ n m z. refl)
 
 pub blank-unsound : BlankUnsound
-unfolding sound soundState soundPin goodPin over
+unfolding sound soundState soundCredential soundValue goodValue goodPin over allBelow
 blank-unsound area = refl

@@ -1,6 +1,8 @@
--- Every row of the table holds, computed from the rules: the one statement of this crate.
+-- Every row of the table holds, computed from the rules: a statement for each group of rows, since one statement has a step limit, and
+-- edges-hold, that no group is left out.
 -- Assumes nothing.
-use mathlib.Core.Bool.{true}
+use mathlib.Core.Bool.{Bool, true}
+use mathlib.Core.List.{List}
 use mathlib.Core.Path.{_≡_, refl}
 use Rattle.cipher.specs.Field.{xPower}
 use Rattle.cipher.specs.SubBytes.{square, squares, inverse, sbox}
@@ -10,27 +12,214 @@ use Rattle.cipher.specs.Cipher.{roundKey, fullRound, lastRound, rounds, cipher,
 use Rattle.files.specs.Words.{allBelow}
 use Rattle.files.specs.Part.{part, splice, over}
 use Rattle.files.specs.Types.{count, recordLength, size, goodShape}
-use Rattle.files.specs.Rights.{allowed, goodRights, soundRights}
+use Rattle.files.specs.Rights.{allowed, goodRights}
 use Rattle.files.specs.Directory.{used, startAt, extent, isPlace, inArea, seek, findFid, findSfi}
 use Rattle.files.specs.Record.{back, next, bytesUsed, placesHeld, placeOf, recordsHeld, startOf, lengthOf, located, locatedIn, nextPlace, nextStart, entry, appended, soundHeld, soundUsed, partedFile, isRecord, hasRoom}
 use Rattle.files.specs.Walk.{stands, past, walk, parted, standing}
 use Rattle.files.specs.Create.{goodContents, sfiUnused, room, created}
 use Rattle.files.specs.Sound.{soundFile, unusedPlace, sfisDiffer, soundDirectory, partedArea}
 use Rattle.rules.specs.Words.{orElse, allOf, same}
-use Rattle.rules.specs.Sound.{goodPin, soundPin, soundLogin, soundChallenge, soundState, sound}
+use Rattle.rules.specs.Sound.{goodPin, goodValue, soundValue, soundTries, soundCredential, soundChallenge, soundState, sound}
 use Rattle.rules.specs.Frame.{caseOf, framed}
-use Rattle.rules.specs.List.{rows, find, listed}
+use Rattle.rules.specs.List.{rows, find, listed, rule}
 use Rattle.rules.specs.Select.{selectChecks}
 use Rattle.rules.specs.Binary.{target, readCount, readBinaryChecks, updateBinaryChecks}
 use Rattle.rules.specs.Record.{recordFound, readRecordChecks, updateRecordChecks, appendChecks}
-use Rattle.rules.specs.Pins.{compared, verifyChecks, changeChecks, reloadChecks}
+use Rattle.rules.specs.Pins.{comparedAt, verifyChecks, changeChecks, reloadChecks}
 use Rattle.rules.specs.Device.{authenticateChecks, getChallengeChecks}
 use Rattle.rules.specs.Create.{fileGiven, createChecks}
-use Rattle.rules.specs.Step.{addressed, checks, effectOf, outcome, settled, step}
+use Rattle.rules.specs.Step.{checks, effectOf, outcome, settled, step}
 use Rattle.rules.specs.Calls.{command, reset, goodOrder, issue}
-use Rattle.edges.specs.Table.{allHold}
-use Rattle.edges.specs.Edges.{edges}
+use Rattle.edges.specs.Table.{Edge, allHold}
+use Rattle.edges.specs.Starred.{starred}
+use Rattle.edges.specs.Frame.{framing}
+use Rattle.edges.specs.Select.{selecting}
+use Rattle.edges.specs.Binary.{binaries}
+use Rattle.edges.specs.Record.{recording}
+use Rattle.edges.specs.Variable.{variables}
+use Rattle.edges.specs.Rights.{holding-rights}
+use Rattle.edges.specs.Pins.{pins}
+use Rattle.edges.specs.Device.{devices}
+use Rattle.edges.specs.Create.{creating}
+use Rattle.edges.specs.Calls.{calls}
+use Rattle.edges.specs.Sound.{credentials, directories, sessions}
+use Rattle.edges.specs.Login.{login}
+use Rattle.edges.specs.FrameRanges.{class-bytes, ins-bytes, frame-lengths}
+use Rattle.edges.specs.ParameterRanges.{p-of-files, p-of-credentials, sfis}
+use Rattle.edges.specs.LengthRanges.{lc-bytes, le-bytes}
+use Rattle.edges.specs.OffsetRanges.{offsets}
+use Rattle.edges.specs.RightsRanges.{rights-created, rights-asked}
+use Rattle.edges.specs.PinRanges.{pin-digits, pin-tries, orders, staying}
+use Rattle.edges.specs.LoginRanges.{cryptograms, login-of-4, login-of-8}
+use Rattle.edges.specs.NoteRanges.{note-lengths, note-reads, ends}
+use Rattle.edges.specs.Unsound.{unsound-credentials, unsound-directories, unsound-sessions, sound-cards}
+use Rattle.edges.specs.Edges.{edges, EachHolds}
 
-pub edges-hold : allHold edges ≡ true
-unfolding xPower square squares inverse sbox mixColumn expanded keyExpansion roundKey fullRound lastRound rounds cipher aes128 allBelow part splice over count recordLength size goodShape allowed goodRights soundRights used startAt extent isPlace inArea seek findFid findSfi back next bytesUsed placesHeld placeOf recordsHeld startOf lengthOf located locatedIn nextPlace nextStart entry appended soundHeld soundUsed partedFile isRecord hasRoom stands past walk parted standing goodContents sfiUnused room created soundFile unusedPlace sfisDiffer soundDirectory partedArea orElse allOf same goodPin soundPin soundLogin soundChallenge soundState sound caseOf framed rows find listed selectChecks target readCount readBinaryChecks updateBinaryChecks recordFound readRecordChecks updateRecordChecks appendChecks compared verifyChecks changeChecks reloadChecks authenticateChecks getChallengeChecks fileGiven createChecks addressed checks effectOf outcome settled step command reset goodOrder issue
-edges-hold = refl
+-- whether rows hold, by computation: to unfold this is to unfold every rule that a row may need
+computed : List Edge → Bool
+unfolding xPower square squares inverse sbox mixColumn expanded keyExpansion roundKey fullRound lastRound rounds cipher aes128 allBelow part splice over count recordLength size goodShape allowed goodRights used startAt extent isPlace inArea seek findFid findSfi back next bytesUsed placesHeld placeOf recordsHeld startOf lengthOf located locatedIn nextPlace nextStart entry appended soundHeld soundUsed partedFile isRecord hasRoom stands past walk parted standing goodContents sfiUnused room created soundFile unusedPlace sfisDiffer soundDirectory partedArea orElse allOf same goodPin goodValue soundValue soundTries soundCredential soundChallenge soundState sound caseOf framed rows find listed rule selectChecks target readCount readBinaryChecks updateBinaryChecks recordFound readRecordChecks updateRecordChecks appendChecks comparedAt verifyChecks changeChecks reloadChecks authenticateChecks getChallengeChecks fileGiven createChecks checks effectOf outcome settled step command reset goodOrder issue
+computed = allHold
+
+pub starred-hold : allHold starred ≡ true
+unfolding computed
+starred-hold = refl
+
+pub framing-hold : allHold framing ≡ true
+unfolding computed
+framing-hold = refl
+
+pub selecting-hold : allHold selecting ≡ true
+unfolding computed
+selecting-hold = refl
+
+pub binaries-hold : allHold binaries ≡ true
+unfolding computed
+binaries-hold = refl
+
+pub recording-hold : allHold recording ≡ true
+unfolding computed
+recording-hold = refl
+
+pub variables-hold : allHold variables ≡ true
+unfolding computed
+variables-hold = refl
+
+pub holding-rights-hold : allHold holding-rights ≡ true
+unfolding computed
+holding-rights-hold = refl
+
+pub pins-hold : allHold pins ≡ true
+unfolding computed
+pins-hold = refl
+
+pub devices-hold : allHold devices ≡ true
+unfolding computed
+devices-hold = refl
+
+pub creating-hold : allHold creating ≡ true
+unfolding computed
+creating-hold = refl
+
+pub calls-hold : allHold calls ≡ true
+unfolding computed
+calls-hold = refl
+
+pub credentials-hold : allHold credentials ≡ true
+unfolding computed
+credentials-hold = refl
+
+pub directories-hold : allHold directories ≡ true
+unfolding computed
+directories-hold = refl
+
+pub sessions-hold : allHold sessions ≡ true
+unfolding computed
+sessions-hold = refl
+
+pub login-hold : allHold login ≡ true
+unfolding computed
+login-hold = refl
+
+pub class-bytes-hold : allHold class-bytes ≡ true
+unfolding computed
+class-bytes-hold = refl
+
+pub ins-bytes-hold : allHold ins-bytes ≡ true
+unfolding computed
+ins-bytes-hold = refl
+
+pub frame-lengths-hold : allHold frame-lengths ≡ true
+unfolding computed
+frame-lengths-hold = refl
+
+pub p-of-files-hold : allHold p-of-files ≡ true
+unfolding computed
+p-of-files-hold = refl
+
+pub p-of-credentials-hold : allHold p-of-credentials ≡ true
+unfolding computed
+p-of-credentials-hold = refl
+
+pub sfis-hold : allHold sfis ≡ true
+unfolding computed
+sfis-hold = refl
+
+pub lc-bytes-hold : allHold lc-bytes ≡ true
+unfolding computed
+lc-bytes-hold = refl
+
+pub le-bytes-hold : allHold le-bytes ≡ true
+unfolding computed
+le-bytes-hold = refl
+
+pub offsets-hold : allHold offsets ≡ true
+unfolding computed
+offsets-hold = refl
+
+pub rights-created-hold : allHold rights-created ≡ true
+unfolding computed
+rights-created-hold = refl
+
+pub rights-asked-hold : allHold rights-asked ≡ true
+unfolding computed
+rights-asked-hold = refl
+
+pub pin-digits-hold : allHold pin-digits ≡ true
+unfolding computed
+pin-digits-hold = refl
+
+pub pin-tries-hold : allHold pin-tries ≡ true
+unfolding computed
+pin-tries-hold = refl
+
+pub orders-hold : allHold orders ≡ true
+unfolding computed
+orders-hold = refl
+
+pub staying-hold : allHold staying ≡ true
+unfolding computed
+staying-hold = refl
+
+pub cryptograms-hold : allHold cryptograms ≡ true
+unfolding computed
+cryptograms-hold = refl
+
+pub login-of-4-hold : allHold login-of-4 ≡ true
+unfolding computed
+login-of-4-hold = refl
+
+pub login-of-8-hold : allHold login-of-8 ≡ true
+unfolding computed
+login-of-8-hold = refl
+
+pub note-lengths-hold : allHold note-lengths ≡ true
+unfolding computed
+note-lengths-hold = refl
+
+pub note-reads-hold : allHold note-reads ≡ true
+unfolding computed
+note-reads-hold = refl
+
+pub ends-hold : allHold ends ≡ true
+unfolding computed
+ends-hold = refl
+
+pub unsound-credentials-hold : allHold unsound-credentials ≡ true
+unfolding computed
+unsound-credentials-hold = refl
+
+pub unsound-directories-hold : allHold unsound-directories ≡ true
+unfolding computed
+unsound-directories-hold = refl
+
+pub unsound-sessions-hold : allHold unsound-sessions ≡ true
+unfolding computed
+unsound-sessions-hold = refl
+
+pub sound-cards-hold : allHold sound-cards ≡ true
+unfolding computed
+sound-cards-hold = refl
+
+pub edges-hold : EachHolds edges
+edges-hold =
+    (starred-hold, (framing-hold, (selecting-hold, (binaries-hold, (recording-hold, (variables-hold, (holding-rights-hold, (pins-hold, (devices-hold, (creating-hold, (calls-hold, (credentials-hold, (directories-hold, (sessions-hold, (login-hold, (class-bytes-hold, (ins-bytes-hold, (frame-lengths-hold, (p-of-files-hold, (p-of-credentials-hold, (sfis-hold, (lc-bytes-hold, (le-bytes-hold, (offsets-hold, (rights-created-hold, (rights-asked-hold, (pin-digits-hold, (pin-tries-hold, (orders-hold, (staying-hold, (cryptograms-hold, (login-of-4-hold, (login-of-8-hold, (note-lengths-hold, (note-reads-hold, (ends-hold, (unsound-credentials-hold, (unsound-directories-hold, (unsound-sessions-hold, (sound-cards-hold, tt))))))))))))))))))))))))))))))))))))))))

@@ -1,17 +1,17 @@
--- "A state is sound when all this holds": cards with one thing wrong, beside cards at the edge that are sound. That commands and resets refuse what is
--- not sound with 4, rows of `Calls` and `Variable` show.
+-- "A state is sound when all this holds": cards with one thing wrong, beside cards at the edge that are sound. That commands and resets refuse the
+-- first by 4 and serve the others, `Unsound` shows.
 use Prim.Native.Nat.{ℕ}
 use mathlib.Core.Bool.{true, false}
 use mathlib.Core.List.{List, [], _∷_, _++_}
-use lib.ListN.{replicate}
+use lib.ListN.{take, replicate}
 use Rattle.files.specs.declared.File.{File}
 use Rattle.files.specs.Part.{zeros}
-use Rattle.files.specs.State.{rightsOf, blankFile, newFile, withNewest, noFiles, withFile, oneMore}
+use Rattle.files.specs.State.{blankFile, newFile, withNewest, noFiles, withFile, oneMore}
 use Rattle.rules.specs.declared.Tries.{Tries}
-use Rattle.rules.specs.declared.Pin.{Pin}
+use Rattle.rules.specs.declared.Credential.{Credential}
 use Rattle.rules.specs.declared.Card.{Card}
 use Rattle.rules.specs.Tries.{full}
-use Rattle.rules.specs.State.{Which, device, admin, user, withKey, withAdmin, withUser, withDirectory, withSession, withRights, withLogin, keyOf}
+use Rattle.rules.specs.State.{Which, device, admin, user, withCredential, withDirectory, withSession, withLogin}
 use Rattle.edges.specs.Table.{hex, random, Edge, stated}
 use Rattle.edges.specs.Cards.{holder, filed, add, cabinet}
 use Rattle.edges.specs.Create.{fifteen}
@@ -38,25 +38,60 @@ plain = filed false false false
 abbrev pub tries : ℕ → ℕ → Tries
 tries left limit = record { left = left; limit = limit }
 
-abbrev pub pin : List ℕ → ℕ → Pin
-pin digits len = record { digits = digits; len = len; tries = full 3 }
+abbrev pub valued : List ℕ → ℕ → Credential
+valued bytes len = record { value = bytes; len = len; tries = full 3 }
 
--- a PIN is 6 to 16 bytes, each 30 to 39; PIN bytes past its length are 00
-abbrev pub bad-pins : (Pin → Card) → List Card
-bad-pins with-pin =
-    with-pin (pin (replicate 5 0x31 ++ zeros 11) 5)
-    ∷ with-pin (pin (replicate 16 0x31) 17)
-    ∷ with-pin (pin (hex 0x1_31323334352F ++ zeros 10) 6)
-    ∷ with-pin (pin (hex 0x1_3132333A3536 ++ zeros 10) 6)
-    ∷ with-pin (pin (hex 0x1_313233343536 ++ (0x31 ∷ zeros 9)) 6)
-    ∷ with-pin (pin (hex 0x1_313233343536 ++ zeros 9 ++ (0x01 ∷ [])) 6)
-    -- sixteen places
-    ∷ with-pin (pin (hex 0x1_313233343536 ++ zeros 9) 6)
-    ∷ with-pin (pin (hex 0x1_313233343536 ++ zeros 11) 6)
+-- the card with this device key, and this admin or user PIN: credentials 0, 1 and 2
+abbrev pub with-key : List ℕ → ℕ → Card
+with-key bytes len = withCredential plain 0 (valued bytes len)
+
+abbrev pub with-admin : Credential → Card
+with-admin = withCredential plain 1
+
+abbrev pub with-user : Credential → Card
+with-user = withCredential plain 2
+
+-- the device key is 16 bytes of any value, in sixteen places
+abbrev pub bad-keys : List Card
+bad-keys =
+    with-key (replicate 15 0x31 ++ zeros 1) 15
+    ∷ with-key (zeros 16) 15
+    ∷ with-key (zeros 16) 0
+    ∷ with-key (zeros 16) 17
+    ∷ with-key (hex 0x1_313233343536 ++ zeros 10) 6
+    ∷ with-key (zeros 15) 15
+    ∷ with-key (zeros 15) 16
+    ∷ with-key (zeros 17) 16
+    ∷ with-key (zeros 17) 17
     ∷ []
 
-abbrev pub good-pins : (Pin → Card) → List Card
-good-pins with-pin = with-pin (pin (hex 0x1_303132333439 ++ zeros 10) 6) ∷ with-pin (pin (replicate 16 0x39) 16) ∷ []
+abbrev pub good-keys : List Card
+good-keys =
+    with-key (zeros 16) 16
+    ∷ with-key (replicate 16 0xFF) 16
+    ∷ with-key (replicate 16 0x31) 16
+    ∷ with-key random 16
+    ∷ []
+
+-- a PIN is 6 to 16 bytes, each 30 to 39; PIN bytes past its length are 00
+abbrev pub bad-pins : (Credential → Card) → List Card
+bad-pins with-pin =
+    with-pin (valued (replicate 5 0x31 ++ zeros 11) 5)
+    ∷ with-pin (valued (zeros 16) 0)
+    ∷ with-pin (valued (replicate 16 0xFF) 16)
+    ∷ with-pin (valued random 16)
+    ∷ with-pin (valued (replicate 16 0x31) 17)
+    ∷ with-pin (valued (hex 0x1_31323334352F ++ zeros 10) 6)
+    ∷ with-pin (valued (hex 0x1_3132333A3536 ++ zeros 10) 6)
+    ∷ with-pin (valued (hex 0x1_313233343536 ++ (0x31 ∷ zeros 9)) 6)
+    ∷ with-pin (valued (hex 0x1_313233343536 ++ zeros 9 ++ (0x01 ∷ [])) 6)
+    -- sixteen places
+    ∷ with-pin (valued (hex 0x1_313233343536 ++ zeros 9) 6)
+    ∷ with-pin (valued (hex 0x1_313233343536 ++ zeros 11) 6)
+    ∷ []
+
+abbrev pub good-pins : (Credential → Card) → List Card
+good-pins with-pin = with-pin (valued (hex 0x1_303132333439 ++ zeros 10) 6) ∷ with-pin (valued (replicate 16 0x39) 16) ∷ []
 
 -- a limit of 1 to 128, tries left from 0 to the limit, and a held right has all its tries left
 abbrev pub bad-logins : Which → List Card
@@ -77,14 +112,23 @@ good-logins w =
     ∷ withLogin w plain (tries 3 3) false
     ∷ []
 
+-- three credentials
+abbrev pub keeping : List Credential → Card
+keeping xs = record { credentials = xs; directory = plain .directory; session = plain .session }
+
+abbrev pub bad-counts : List Card
+bad-counts =
+    keeping (take 2 (plain .credentials)) ∷ keeping (plain .credentials ++ (valued (hex 0x1_313233343536 ++ zeros 10) 6 ∷ [])) ∷ keeping [] ∷ []
+
 abbrev pub credentials : List Edge
 credentials =
-    bad (withKey plain (keyOf (zeros 15) (full 3)) ∷ withKey plain (keyOf (zeros 17) (full 3)) ∷ [])
-    ++ bad (bad-pins (withAdmin plain)) ++ good (good-pins (withAdmin plain))
-    ++ bad (bad-pins (withUser plain)) ++ good (good-pins (withUser plain))
+    bad bad-keys ++ good good-keys
+    ++ bad (bad-pins with-admin) ++ good (good-pins with-admin)
+    ++ bad (bad-pins with-user) ++ good (good-pins with-user)
     ++ bad (bad-logins device) ++ good (good-logins device)
     ++ bad (bad-logins admin) ++ good (good-logins admin)
     ++ bad (bad-logins user) ++ good (good-logins user)
+    ++ bad bad-counts
 
 -- a card with these files alone
 abbrev pub having : List File → Card
@@ -165,15 +209,24 @@ directories = bad-in 4097 bad-files ++ bad bad-places ++ good-in 4096 good-files
 -- a session with this current file and challenge
 abbrev pub session : ℕ → List ℕ → ℕ → Card
 session current challenge len =
-    withSession plain (record { rights = rightsOf 0 0 0; current = current; challenge = challenge; len = len })
+    withSession plain (record { rights = zeros 3; current = current; challenge = challenge; len = len })
+
+-- rights kept so: device, admin, user
+abbrev pub keeps : List ℕ → Card
+keeps rights = withSession plain (record { rights = rights; current = 0; challenge = zeros 16; len = 0 })
 
 -- the current file exists; the challenge is 4, 8 or 16 bytes or none, and bytes past it are 00
 abbrev pub bad-sessions : List Card
 bad-sessions =
-    -- each right is kept as 0 or 1
-    withRights plain (rightsOf 2 0 0)
-    ∷ withRights plain (rightsOf 0 2 0)
-    ∷ withRights plain (rightsOf 0 0 255)
+    -- each right is kept as 0 or 1, in three places
+    keeps (2 ∷ 0 ∷ 0 ∷ [])
+    ∷ keeps (255 ∷ 0 ∷ 0 ∷ [])
+    ∷ keeps (0 ∷ 2 ∷ 0 ∷ [])
+    ∷ keeps (0 ∷ 255 ∷ 0 ∷ [])
+    ∷ keeps (0 ∷ 0 ∷ 2 ∷ [])
+    ∷ keeps (0 ∷ 0 ∷ 255 ∷ [])
+    ∷ keeps (zeros 2)
+    ∷ keeps (zeros 4)
     ∷ session 9 (zeros 16) 0
     ∷ session 255 (zeros 16) 0
     ∷ session 0 (0x01 ∷ zeros 15) 0

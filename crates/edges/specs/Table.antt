@@ -5,9 +5,8 @@ use mathlib.Core.List.{List, [], _∷_, _++_}
 use lib.ListN.{length, replicate}
 use lib.Dec.{eqb, leb}
 use Rattle.files.specs.declared.File.{File}
-use Rattle.files.specs.declared.Rights.{Rights}
 use Rattle.rules.specs.declared.Tries.{Tries}
-use Rattle.rules.specs.declared.Pin.{Pin}
+use Rattle.rules.specs.declared.Credential.{Credential}
 use Rattle.rules.specs.declared.Card.{Card}
 use Rattle.rules.specs.declared.Answer.{Answer}
 use Rattle.rules.specs.Sound.{sound}
@@ -68,8 +67,9 @@ flag b = cond b 1 0
 abbrev pub triesNumbers : Tries → List ℕ
 triesNumbers t = t .left ∷ t .limit ∷ []
 
-abbrev pub pinNumbers : Pin → List ℕ
-pinNumbers p = p .digits ++ (p .len ∷ triesNumbers (p .tries))
+abbrev pub credentialsNumbers : List Credential → List ℕ
+credentialsNumbers [] = []
+credentialsNumbers (x ∷ xs) = x .value ++ (x .len ∷ triesNumbers (x .tries)) ++ credentialsNumbers xs
 
 abbrev pub fileNumbers : File → List ℕ
 fileNumbers f = f .fid1 ∷ f .fid2 ∷ f .kind ∷ f .size1 ∷ f .size2 ∷ f .read ∷ f .write ∷ f .held ∷ f .newest ∷ f .used1 ∷ f .used2 ∷ []
@@ -78,13 +78,10 @@ abbrev pub filesNumbers : List File → List ℕ
 filesNumbers [] = []
 filesNumbers (f ∷ fs) = fileNumbers f ++ filesNumbers fs
 
-abbrev pub rightsNumbers : Rights → List ℕ
-rightsNumbers r = r .device ∷ r .admin ∷ r .user ∷ []
-
 abbrev pub numbers : Card → List ℕ
 numbers c =
-    c .key .bytes ++ triesNumbers (c .key .tries) ++ pinNumbers (c .admin) ++ pinNumbers (c .user) ++ filesNumbers (c .directory .files)
-    ++ (c .directory .count ∷ []) ++ rightsNumbers (c .session .rights) ++ (c .session .current ∷ c .session .len ∷ []) ++ c .session .challenge
+    credentialsNumbers (c .credentials) ++ filesNumbers (c .directory .files) ++ (c .directory .count ∷ []) ++ c .session .rights
+    ++ (c .session .current ∷ c .session .len ∷ []) ++ c .session .challenge
 
 -- a status word's two bytes
 abbrev pub swOf : ℕ → List ℕ
@@ -138,7 +135,7 @@ obeys send c area (holding see expected ∷ ls) = equal (see c area) expected &&
 -- a blank state, all zero; the area unwritten
 abbrev pub leftBlank : Issued → ℕ → List ℕ → Bool
 leftBlank d outcome area =
-    eqb (d .answer .outcome) outcome && (eqb (d .answer .n) 0 && (equal (numbers (d .answer .card)) (replicate 254 0) && equal (d .area) area))
+    eqb (d .answer .outcome) outcome && (eqb (d .answer .n) 0 && (equal (numbers (d .answer .card)) (replicate 255 0) && equal (d .area) area))
 
 abbrev pub sweep : ℕ → (ℕ → Bool) → Bool
 sweep zero p = true

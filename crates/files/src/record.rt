@@ -11,6 +11,8 @@ ghost use Rattle.files.specs.Record.{back, placesHeld, bytesUsed, placeO
 use crate::File;
 use crate::FileAnswer;
 use crate::Located;
+use crate::and_or::both;
+use crate::and_or::either;
 use crate::numbers::ends_by;
 use crate::numbers::fewer;
 use crate::numbers::less;
@@ -32,8 +34,7 @@ use crate::state::located_at;
 use crate::state::nowhere;
 use crate::state::with_newest;
 use crate::state::with_used;
-use crate::tests::both;
-use crate::tests::either;
+use crate::walk::parts;
 use crate::walk::stands;
 use crate::walk::walk;
 
@@ -118,8 +119,7 @@ pub(crate) fn is_parted(f: File, extent: &[u8]) -> bool
     if f.kind != VARIABLE {
         return true;
     }
-    let used = bytes_used(f);
-    walk(extent, used, used) == used
+    parts(extent, bytes_used(f))
 }
 
 // Record number n of a 2C file.

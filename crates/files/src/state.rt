@@ -1,32 +1,13 @@
 // A value of a struct of this crate is made here and nowhere else.
 ghost use mathlib.Core.Path.{_≡_};
 ghost use Prim.Native.Nat.{_≤_, _<_};
-ghost use Rattle.files.specs.State.{mark, rightsOf, blankFile, newFile, withNewest, withUsed, emptied, locatedAt, nowhere, noFiles, withFile, oneMore, anExtent, fileAnswer, directoryAnswer};
+ghost use Rattle.files.specs.State.{blankFile, newFile, withNewest, withUsed, emptied, locatedAt, nowhere, noFiles, withFile, oneMore, anExtent, fileAnswer, directoryAnswer};
 use crate::Directory;
 use crate::DirectoryAnswer;
 use crate::Extent;
 use crate::File;
 use crate::FileAnswer;
 use crate::Located;
-use crate::Rights;
-
-// A right as it is kept.
-pub fn mark(held: bool) -> u8
-    ensures { λ r. ⌜ r ≡ mark held ⌝ }
-{
-    if held { 1 } else { 0 }
-}
-
-// None is held.
-pub fn no_rights() -> Rights
-    ensures { λ r. ⌜ r ≡ rightsOf 0 0 0 ⌝ }
-{
-    Rights {
-        device: 0,
-        admin: 0,
-        user: 0,
-    }
-}
 
 // A file as CREATE gives it: no record is held.
 pub fn new_file(fid1: u8, fid2: u8, kind: u8, size1: u8, size2: u8, read: u8, write: u8) -> File
@@ -94,7 +75,7 @@ pub(crate) fn located_at(start: usize, length: u8) -> Located
 }
 
 // No such record.
-pub fn nowhere() -> Located
+pub(crate) fn nowhere() -> Located
     ensures { λ r. ⌜ r ≡ nowhere ⌝ }
 {
     Located {

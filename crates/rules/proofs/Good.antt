@@ -1,33 +1,30 @@
 -- What a sound state tells, part by part, and that each setter of the card leaves a sound state where the new part is sound.
-use Prim.Native.Nat.{ℕ, zero, suc, _≤_}
-use mathlib.Core.Bool.{Bool, true, false, _||_, not}
-use mathlib.Core.List.{List, [], _∷_}
-use mathlib.Core.Path.{_≡_, refl}
+use Prim.Native.Nat.{ℕ, zero, suc, _≤_, _<_}
+use mathlib.Core.Bool.{Bool, true, false, cond, _||_, not}
+use mathlib.Core.List.{List, [], _∷_, map}
+use mathlib.Core.Logic.{by-cases}
+use mathlib.Core.Path.{_≡_, refl, sym, ap, subst, _∙_}
+use native.Mathlib.Decide.{ℕ-discrete}
 use native.Mathlib.Nat.{le-refl}
 use native.Mathlib.Omega.{arith}
-use lib.ListN.{length, take, drop, length-append, length-drop, length-replicate}
-use lib.Seq.{take-at, drop-at}
+use lib.ListN.{length, take, drop, getD, set, List·getD-map, length-append, length-drop, length-replicate, length-set}
+use lib.Seq.{take-at, drop-at, getD-set-same, getD-set-other}
 use lib.Dec.{eqb, leb}
 use borrow.Author.Tests.{eqb-true, leb-true, le-leb, eq-eqb}
-use Rattle.files.specs.declared.Rights.{Rights}
 use Rattle.files.specs.declared.Directory.{Directory}
-use Rattle.files.specs.Words.{isZero}
+use Rattle.files.specs.Words.{every, allBelow, isZero}
 use Rattle.files.specs.Part.{over, zeros}
-use Rattle.files.specs.State.{mark}
-use Rattle.files.specs.Rights.{marked, soundRights}
 use Rattle.files.specs.Sound.{soundDirectory, partedArea}
-use Rattle.files.proofs.Checks.{Every, each, all, both}
+use Rattle.files.proofs.Checks.{each, all, both, below, all-below}
 use Rattle.files.proofs.Kept.{PartedIn, parted-in, is-parted-in, sound-none}
 use Rattle.rules.specs.declared.Tries.{Tries}
-use Rattle.rules.specs.declared.Pin.{Pin}
-use Rattle.rules.specs.declared.Key.{Key}
+use Rattle.rules.specs.declared.Credential.{Credential}
 use Rattle.rules.specs.declared.Card.{Card}
 use Rattle.rules.specs.Words.{allOf, filled}
 use Rattle.rules.specs.Tries.{goodLimit, full, lowered}
-use Rattle.rules.specs.State.{Which, device, admin, user, Login, logins, login, pinOf, newCard, withSession, noSession, withCurrent, withChallenge, withDirectory, withKey, withAdmin, withUser, withRights, withLogin, withValue}
-use Rattle.rules.specs.Sound.{digit, goodLength, goodPin, soundPin, soundLogin, goodChallenge, soundChallenge, soundState, sound}
-use Rattle.rules.specs.Pins.{whichOf}
-use Rattle.rules.proofs.Checks.{one-of, either}
+use Rattle.rules.specs.State.{Which, device, admin, user, whiches, numberOf, howMany, mark, marked, noCredential, credential, rightKept, valueOf, login, credentialOf, withTries, newCard, withSession, noSession, withCurrent, withChallenge, withDirectory, withCredential, withRights, withLogin, withValue}
+use Rattle.rules.specs.Sound.{digit, goodLength, goodPin, isKey, goodValue, soundValue, soundTries, soundCredential, soundAt, goodChallenge, soundChallenge, soundState, sound}
+use Rattle.rules.proofs.Checks.{every-at, one-of, either}
 
 -- tries and right of a credential
 pub record Tried (t : Tries) (held : Bool) : Type 0 where
@@ -35,44 +32,51 @@ pub record Tried (t : Tries) (held : Bool) : Type 0 where
   pub few : t .left ≤ t .limit
   pub full : (not held || eqb (t .left) (t .limit)) ≡ true
 
-pub record Keyed (k : Key) (held : Bool) : Type 0 where
-  pub bytes : length (k .bytes) ≡ 16
-  pub tries : Tried (k .tries) held
-
-pub record Pinned (p : Pin) (held : Bool) : Type 0 where
-  pub pin : soundPin p ≡ true
-  pub tries : Tried (p .tries) held
+-- the credential of a number, with the number that keeps its right
+pub record Credited (n : ℕ) (x : Credential) (right : ℕ) : Type 0 where
+  pub value : soundValue n x ≡ true
+  pub tries : Tried (x .tries) (marked right)
+  pub low : right ≤ 1
 
 pub record Good (c : Card) : Type 0 where
-  pub device : Keyed (c .key) (marked (c .session .rights .device))
-  pub admin : Pinned (c .admin) (marked (c .session .rights .admin))
-  pub user : Pinned (c .user) (marked (c .session .rights .user))
-  pub rights : soundRights (c .session .rights) ≡ true
+  pub all-there : length (c .credentials) ≡ howMany
+  pub all-kept : length (c .session .rights) ≡ howMany
+  pub credited : (n : ℕ) → n < howMany → Credited n (credential c n) (rightKept c n)
   pub directory : soundDirectory (c .directory) ≡ true
   pub current : c .session .current ≤ c .directory .count
   pub challenge : soundChallenge (c .session) ≡ true
 
-abbrev loginList : Login → List Bool
-loginList l = goodLimit (l .tries .limit) ∷ leb (l .tries .left) (l .tries .limit) ∷ (not (l .held) || eqb (l .tries .left) (l .tries .limit)) ∷ []
+abbrev triesList : Tries → Bool → List Bool
+triesList t held = goodLimit (t .limit) ∷ leb (t .left) (t .limit) ∷ (not held || eqb (t .left) (t .limit)) ∷ []
 
-tried : (l : Login) → soundLogin l ≡ true → Tried (l .tries) (l .held)
-unfolding soundLogin
-tried l h = let e = each (loginList l) h in record { limit = e .0; few = leb-true _ _ (e .1 .0); full = e .1 .1 }
+tried : (t : Tries) (held : Bool) → soundTries t held ≡ true → Tried t held
+unfolding soundTries
+tried t held h = let e = each (triesList t held) h in record { limit = e .0; few = leb-true _ _ (e .1 .0); full = e .1 .1 }
 
-is-tried : (l : Login) → Tried (l .tries) (l .held) → soundLogin l ≡ true
-unfolding soundLogin
-is-tried l t = all (loginList l) (t .limit, (le-leb _ _ (t .few), t .full))
+is-tried : (t : Tries) (held : Bool) → Tried t held → soundTries t held ≡ true
+unfolding soundTries
+is-tried t held h = all (triesList t held) (h .limit, (le-leb _ _ (h .few), h .full))
+
+abbrev creditList : ℕ → Credential → ℕ → List Bool
+creditList n x right = soundValue n x ∷ soundTries (x .tries) (marked right) ∷ leb right 1 ∷ []
+
+module _ (n : ℕ) (x : Credential) (right : ℕ) where
+  credit : soundCredential n x right ≡ true → Credited n x right
+  unfolding soundCredential
+  credit h =
+      let e = each (creditList n x right) h in
+      record { value = e .0; tries = tried (x .tries) (marked right) (e .1 .0); low = leb-true _ _ (e .1 .1) }
+
+  is-credit : Credited n x right → soundCredential n x right ≡ true
+  unfolding soundCredential
+  is-credit h = all (creditList n x right) (h .value, (is-tried (x .tries) (marked right) (h .tries), le-leb _ _ (h .low)))
 
 abbrev soundList : Card → List Bool
 soundList c =
-    eqb (length (c .key .bytes)) 16
-    ∷ soundPin (c .admin)
-    ∷ soundPin (c .user)
-    ∷ soundLogin (logins c .device)
-    ∷ soundLogin (logins c .admin)
-    ∷ soundLogin (logins c .user)
+    eqb (length (c .credentials)) howMany
+    ∷ eqb (length (c .session .rights)) howMany
+    ∷ allBelow (soundAt c) howMany
     ∷ soundDirectory (c .directory)
-    ∷ soundRights (c .session .rights)
     ∷ leb (c .session .current) (c .directory .count)
     ∷ soundChallenge (c .session)
     ∷ []
@@ -81,26 +85,21 @@ pub good : (c : Card) → soundState c ≡ true → Good c
 unfolding soundState
 good c h =
     let e = each (soundList c) h in
-    let t = e .1 .1 .1 in
-    let f = t .1 .1 .1 in
     record {
-      device = record { bytes = eqb-true _ _ (e .0); tries = tried (logins c .device) (t .0) };
-      admin = record { pin = e .1 .0; tries = tried (logins c .admin) (t .1 .0) };
-      user = record { pin = e .1 .1 .0; tries = tried (logins c .user) (t .1 .1 .0) };
-      directory = f .0;
-      rights = f .1 .0;
-      current = leb-true _ _ (f .1 .1 .0);
-      challenge = f .1 .1 .1;
+      all-there = eqb-true _ _ (e .0);
+      all-kept = eqb-true _ _ (e .1 .0);
+      credited = λ n l. credit n (credential c n) (rightKept c n) (below (soundAt c) howMany (e .1 .1 .0) n l);
+      directory = e .1 .1 .1 .0;
+      current = leb-true _ _ (e .1 .1 .1 .1 .0);
+      challenge = e .1 .1 .1 .1 .1;
     }
 
 pub is-sound : (c : Card) → Good c → soundState c ≡ true
 unfolding soundState
 is-sound c g =
-    let d = is-tried (logins c .device) (g .device .tries) in
-    let a = is-tried (logins c .admin) (g .admin .tries) in
-    let u = is-tried (logins c .user) (g .user .tries) in
-    let k = eq-eqb _ _ (g .device .bytes) in
-    all (soundList c) (k, (g .admin .pin, (g .user .pin, (d, (a, (u, (g .directory, (g .rights, (le-leb _ _ (g .current), g .challenge)))))))))
+    let t = all-below (soundAt c) howMany (λ n l. is-credit n (credential c n) (rightKept c n) (g .credited n l)) in
+    all (soundList c)
+    (eq-eqb _ _ (g .all-there), (eq-eqb _ _ (g .all-kept), (t, (g .directory, (le-leb _ _ (g .current), g .challenge)))))
 
 -- a sound card with its area: the state, and the files parted
 pub sound-good : (c : Card) (area : List ℕ) → sound c area ≡ true → Good c
@@ -114,6 +113,27 @@ sound-parted c area h = parted-in (c .directory) area (each (soundState c ∷ pa
 pub sound-both : (c : Card) (area : List ℕ) → Good c → PartedIn (c .directory) area → sound c area ≡ true
 unfolding sound
 sound-both c area g p = all (soundState c ∷ partedArea (c .directory) area ∷ []) (is-sound c g, is-parted-in (c .directory) area p)
+
+-- each credential has its place
+pub numbered : (w : Which) → numberOf w < howMany
+numbered device = omega arith
+numbered admin = omega arith
+numbered user = omega arith
+
+-- which is its place in the list
+at-number : (w : Which) → getD whiches (numberOf w) device ≡ w
+at-number device = refl
+at-number admin = refl
+at-number user = refl
+
+-- so a number is one credential's alone
+pub same-which : (v w : Which) → numberOf v ≡ numberOf w → v ≡ w
+same-which v w e = sym (at-number v) ∙ ap (λ n. getD whiches n device) e ∙ at-number w
+
+-- what every one of them passes each passes
+pub for-which : (p : Which → Bool) → every (map p whiches) ≡ true → (w : Which) → p w ≡ true
+for-which p h w =
+    sym (List·getD-map p whiches (numberOf w) device ∙ ap p (at-number w)) ∙ every-at (map p whiches) (numberOf w) (p device) h (numbered w)
 
 -- all tries left, with or without the right; one try less, and a right dropped
 pub tried-full : (n : ℕ) (held : Bool) → goodLimit n ≡ true → Tried (full n) held
@@ -151,12 +171,20 @@ module _ (d : List ℕ) where
   unfolding goodPin
   pin-short h = leb-true _ _ (both (leb 6 (length d)) (leb (length d) 16) (both (goodLength (length d)) (allOf digit d) h .0) .1)
 
-  pub pin-sound : (t : Tries) → goodPin d ≡ true → soundPin (pinOf d t) ≡ true
-  unfolding soundPin
-  pin-sound t h =
-      let n = pin-short h in
-      all (eqb (length (filled d)) 16 ∷ leb (length d) 16 ∷ goodPin (take (length d) (filled d)) ∷ allOf isZero (drop (length d) (filled d)) ∷ [])
-      (eq-eqb _ _ (filled-length n), (le-leb _ _ n, (rw filled-back h, filled-zeros)))
+  module _ (n : ℕ) (h : goodValue n d ≡ true) where
+    pub value-short : length d ≤ 16
+    unfolding goodValue
+    value-short = go (isKey n) h
+      where
+        go : (b : Bool) → cond b (eqb (length d) 16) (goodPin d) ≡ true → length d ≤ 16
+        go true e = omega (arith, eqb-true (length d) 16 e)
+        go false e = pin-short e
+
+    pub value-sound : (t : Tries) → soundValue n (credentialOf d t) ≡ true
+    unfolding soundValue
+    value-sound t =
+        all (eqb (length (filled d)) 16 ∷ leb (length d) 16 ∷ goodValue n (take (length d) (filled d)) ∷ allOf isZero (drop (length d) (filled d)) ∷ [])
+        (eq-eqb _ _ (filled-length value-short), (le-leb _ _ value-short, (rw filled-back h, filled-zeros)))
 
 -- none, or 4, 8 or 16 bytes
 abbrev pub sayable : ℕ → Bool
@@ -173,72 +201,97 @@ pub marked-mark : (held : Bool) → marked (mark held) ≡ held
 marked-mark true = refl
 marked-mark false = refl
 
-mark-low : (held : Bool) → leb (mark held) 1 ≡ true
-mark-low true = refl
-mark-low false = refl
+mark-low : (held : Bool) → mark held ≤ 1
+mark-low true = omega arith
+mark-low false = omega arith
 
-module _ (r : Rights) where
-  rights-list : soundRights r ≡ true → Every (leb (r .device) 1 ∷ leb (r .admin) 1 ∷ leb (r .user) 1 ∷ [])
-  unfolding soundRights
-  rights-list h = each (leb (r .device) 1 ∷ leb (r .admin) 1 ∷ leb (r .user) 1 ∷ []) h
+-- a credential's value does not ask its tries
+value-kept : (n : ℕ) (x : Credential) (t : Tries) → soundValue n x ≡ true → soundValue n (withTries x t) ≡ true
+unfolding soundValue
+value-kept n x t h = h
 
-  is-rights : Every (leb (r .device) 1 ∷ leb (r .admin) 1 ∷ leb (r .user) 1 ∷ []) → soundRights r ≡ true
-  unfolding soundRights
-  is-rights h = all (leb (r .device) 1 ∷ leb (r .admin) 1 ∷ leb (r .user) 1 ∷ []) h
+-- each number below is that of the credential in its place
+abbrev numberBack : ℕ → Bool
+numberBack n = eqb (numberOf (getD whiches n device)) n
+
+numbers-back : allBelow numberBack howMany ≡ true
+unfolding allBelow
+numbers-back = refl
+
+-- what holds of each credential holds below their number
+pub by-number : (P : ℕ → Type 0) → ((w : Which) → P (numberOf w)) → (n : ℕ) → n < howMany → P n
+by-number P h n l = subst P (eqb-true _ _ (below numberBack howMany numbers-back n l)) (h (getD whiches n device))
+
+pub at-which : (f : Which → Credential) (w : Which) → getD (map f whiches) (numberOf w) noCredential ≡ f w
+at-which f device = refl
+at-which f admin = refl
+at-which f user = refl
+
+pub zero-at : (n m : ℕ) → getD (zeros m) n 0 ≡ 0
+zero-at n zero = refl
+zero-at zero (suc m) = refl
+zero-at (suc n) (suc m) = zero-at n m
 
 module _ (c : Card) (g : Good c) where
   -- the files and the current one
   pub placed : (d : Directory) (n : ℕ) → soundDirectory d ≡ true → n ≤ d .count → Good (withCurrent (withDirectory c d) n)
   unfolding soundChallenge
-  placed d n h l =
-      record { device = g .device; admin = g .admin; user = g .user; directory = h; rights = g .rights; current = l; challenge = g .challenge }
+  placed d n h l = record {
+    all-there = g .all-there;
+    all-kept = g .all-kept;
+    credited = g .credited;
+    directory = h;
+    current = l;
+    challenge = g .challenge;
+  }
 
   pub turned : (n : ℕ) → n ≤ c .directory .count → Good (withCurrent c n)
   turned n l = placed (c .directory) n (g .directory) l
 
-  -- tries and right of a credential
   pub tried-in : (w : Which) → Tried (login w c .tries) (login w c .held)
-  tried-in device = g .device .tries
-  tried-in admin = g .admin .tries
-  tried-in user = g .user .tries
+  tried-in w = g .credited (numberOf w) (numbered w) .tries
 
-  -- credentials and rights
-  credited : (k : Key) (a u : Pin) (r : Rights) → Keyed k (marked (r .device)) → Pinned a (marked (r .admin)) → Pinned u (marked (r .user))
-      → soundRights r ≡ true → Good (withRights (withKey (withAdmin (withUser c u) a) k) r)
-  unfolding soundChallenge
-  credited k a u r hk ha hu s =
-      record { device = hk; admin = ha; user = hu; directory = g .directory; rights = s; current = g .current; challenge = g .challenge }
+  -- another credential of a number, and the rights as they are then
+  module _ (n : ℕ) (x : Credential) (rights : List ℕ) (low : n < howMany) (kept : length rights ≡ howMany) (new : Credited n x (getD rights n 0))
+      (others : (m : ℕ) → (m ≡ n → ⊥) → getD rights m 0 ≡ rightKept c m) where
+    renewed : Good (withRights (withCredential c n x) rights)
+    unfolding soundChallenge
+    renewed = record {
+      all-there = length-set (c .credentials) n x ∙ g .all-there;
+      all-kept = kept;
+      credited = λ m l.
+          by-cases (ℕ-discrete m n) (λ e. rw (e, getD-set-same (c .credentials) n x noCredential (rw (g .all-there) low)) new)
+          (λ o. rw (getD-set-other (c .credentials) n m x noCredential o, others m o) (g .credited m l));
+      directory = g .directory;
+      current = g .current;
+      challenge = g .challenge;
+    }
 
+  -- other tries of a credential, and another right
   pub logged : (w : Which) (t : Tries) (held : Bool) → Tried t held → Good (withLogin w c t held)
-  unfolding soundPin
   logged w t held h =
-      let m : Tried t (marked (mark held)) = rw (marked-mark held) h in
-      let kept = rights-list (c .session .rights) (g .rights) in
-      go w m kept
-    where
-      go : (w : Which) → Tried t (marked (mark held))
-          → Every (leb (c .session .rights .device) 1 ∷ leb (c .session .rights .admin) 1 ∷ leb (c .session .rights .user) 1 ∷ [])
-          → Good (withLogin w c t held)
-      go device m kept =
-          credited _ _ _ _ (record { bytes = g .device .bytes; tries = m }) (g .admin) (g .user) (is-rights _ (mark-low held, kept .1))
-      go admin m kept =
-          credited _ _ _ _ (g .device) (record { pin = g .admin .pin; tries = m }) (g .user) (is-rights _ (kept .0, (mark-low held, kept .1 .1)))
-      go user m kept =
-          credited _ _ _ _ (g .device) (g .admin) (record { pin = g .user .pin; tries = m }) (is-rights _ (kept .0, (kept .1 .0, mark-low held)))
+      let n = numberOf w in
+      let rights = c .session .rights in
+      let new : Credited n (withTries (credential c n) t) (mark held) =
+      record { value = value-kept n _ t (g .credited n (numbered w) .value); tries = rw (marked-mark held) h; low = mark-low held } in
+      renewed n (withTries (credential c n) t) (set rights n (mark held)) (numbered w) (length-set rights n (mark held) ∙ g .all-kept)
+      (rw (getD-set-same rights n (mark held) 0 (rw (g .all-kept) (numbered w))) new) (λ m o. getD-set-other rights n m (mark held) 0 o)
 
-  -- a new value of one of the two PINs
-  pub valued : (b : Bool) (d : List ℕ) → goodPin d ≡ true → Good (withValue (whichOf b admin user) c d)
-  valued true d h = credited _ _ _ _ (g .device) (record { pin = pin-sound d _ h; tries = g .admin .tries }) (g .user) (g .rights)
-  valued false d h = credited _ _ _ _ (g .device) (g .admin) (record { pin = pin-sound d _ h; tries = g .user .tries }) (g .rights)
+  -- a new value of a credential
+  pub valued : (w : Which) (d : List ℕ) → goodValue (numberOf w) d ≡ true → Good (withValue w c d)
+  valued w d h =
+      let n = numberOf w in
+      let old = g .credited n (numbered w) in
+      renewed n (credentialOf d (credential c n .tries)) (c .session .rights) (numbered w) (g .all-kept)
+      (record { value = value-sound d n h _; tries = old .tries; low = old .low }) (λ m o. refl)
 
   pub challenged : (d : List ℕ) → sayable (length d) ≡ true → Good (withChallenge c d)
   unfolding soundChallenge
   challenged d h = record {
-    device = g .device;
-    admin = g .admin;
-    user = g .user;
+    all-there = g .all-there;
+    all-kept = g .all-kept;
+    credited = g .credited;
     directory = g .directory;
-    rights = g .rights;
     current = g .current;
     challenge =
         all (eqb (length (filled d)) 16 ∷ sayable (length d) ∷ allOf isZero (drop (length d) (filled d)) ∷ [])
@@ -250,22 +303,25 @@ none-sound : soundChallenge noSession ≡ true
 unfolding soundChallenge allOf
 none-sound = refl
 
-none-held : soundRights (noSession .rights) ≡ true
-unfolding soundRights
-none-held = refl
-
 pub ended : (c : Card) → Good c → Good (withSession c noSession)
 ended c g = record {
-  device = record { bytes = g .device .bytes; tries = tried-dropped _ _ (g .device .tries) };
-  admin = record { pin = g .admin .pin; tries = tried-dropped _ _ (g .admin .tries) };
-  user = record { pin = g .user .pin; tries = tried-dropped _ _ (g .user .tries) };
+  all-there = g .all-there;
+  all-kept = refl;
+  credited = λ n l.
+      let old = g .credited n l in
+      rw (zero-at n howMany) (record { value = old .value; tries = tried-dropped _ _ (old .tries); low = omega arith });
   directory = g .directory;
-  rights = none-held;
   current = omega arith;
   challenge = none-sound;
 }
 
 -- a new card
-pub made : (k : Key) (a u : Pin) → Keyed k false → Pinned a false → Pinned u false → Good (newCard k a u)
-made k a u hk ha hu =
-    record { device = hk; admin = ha; user = hu; directory = sound-none; rights = none-held; current = omega arith; challenge = none-sound }
+pub made : (f : Which → Credential) → ((w : Which) → Credited (numberOf w) (f w) 0) → Good (newCard f)
+made f h = record {
+  all-there = refl;
+  all-kept = refl;
+  credited = by-number (λ n. Credited n (credential (newCard f) n) (rightKept (newCard f) n)) (λ w. rw (at-which f w, zero-at (numberOf w) howMany) (h w));
+  directory = sound-none;
+  current = omega arith;
+  challenge = none-sound;
+}

@@ -1,76 +1,54 @@
 -- A served command, whole: framing, class, list, the command's own checks, its effect; the challenge dropped and the area touched once for all.
-use Prim.Native.Nat.{ℕ}
-use mathlib.Core.Bool.{Bool, true, false, cond}
+use Prim.Native.Nat.{ℕ, _+_}
+use mathlib.Core.Bool.{Bool, cond}
 use mathlib.Core.List.{List, [], _∷_, _++_}
 use lib.Dec.{eqb}
+use lib.ListN.{take}
 use Rattle.files.specs.declared.Located.{Located}
-use Rattle.files.specs.State.{nowhere}
+use Rattle.files.specs.Directory.{start}
 use Rattle.files.specs.Part.{part, splice}
 use Rattle.rules.specs.declared.Card.{Card}
 use Rattle.rules.specs.declared.Ins.{Ins}
-use Rattle.rules.specs.declared.Ins.the-variants.{Select, ReadBinary, UpdateBinary, ReadRecord, UpdateRecord, AppendRecord, Verify, Authenticate, ChangePin, ReloadPin, CreateFile, GetChallenge, Unlisted}
-use Rattle.rules.specs.Words.{first}
-use Rattle.rules.specs.State.{logins, challenge, withChallenge}
+use Rattle.rules.specs.Words.{first, same}
+use Rattle.rules.specs.State.{logins, challenge, withCurrent, withChallenge}
 use Rattle.rules.specs.Frame.{Command, framed, frameSw, classSw}
-use Rattle.rules.specs.List.{listed}
-use Rattle.rules.specs.Effect.{Effect, becomes, answers}
-use Rattle.rules.specs.Select.{selectChecks, selectEffect}
-use Rattle.rules.specs.Binary.{readBinaryChecks, readBinaryEffect, updateBinaryChecks, updateBinaryEffect}
-use Rattle.rules.specs.Record.{recordFound, readRecordChecks, readRecordEffect, updateRecordChecks, updateRecordEffect, appendChecks, appendEffect}
-use Rattle.rules.specs.Pins.{verifyChecks, verifyEffect, changeChecks, changeEffect, reloadChecks, reloadEffect}
-use Rattle.rules.specs.Device.{authenticateChecks, authenticateEffect, getChallengeChecks, getChallengeEffect}
-use Rattle.rules.specs.Create.{createChecks, createEffect}
+use Rattle.rules.specs.Effect.{Deed, turns, shows, stores, appends, makes, Touch, nothing, presents, changes, reloads, challenges, Effect, becomes, answers, saying, showing, storing}
+use Rattle.rules.specs.Record.{recordFound, appending}
+use Rattle.rules.specs.Pins.{compared, changing, reloading}
+use Rattle.rules.specs.Create.{making}
+use Rattle.rules.specs.List.{listed, Rule, ofFiles, ofCredentials, rule}
 
--- READ and UPDATE RECORD address a record by its number
-abbrev pub seeksRecord : Ins → Bool
-seeksRecord Select = false
-seeksRecord ReadBinary = false
-seeksRecord UpdateBinary = false
-seeksRecord ReadRecord = true
-seeksRecord UpdateRecord = true
-seeksRecord AppendRecord = false
-seeksRecord Verify = false
-seeksRecord Authenticate = false
-seeksRecord ChangePin = false
-seeksRecord ReloadPin = false
-seeksRecord CreateFile = false
-seeksRecord GetChallenge = false
-seeksRecord Unlisted = false
+-- the checks of a rule, l the record that the command addresses
+abbrev pub checksOf : Rule → Card → Located → Command → List ℕ
+checksOf (ofFiles t d) c l k = t c l k
+checksOf (ofCredentials t d) c l k = t (logins c) (challenge c) k
 
--- the record that a command addresses. It is found in the area before the checks, which take it and never see the area
-unfoldable pub addressed : Ins → Card → List ℕ → Command → Located
-addressed i c area k = cond (seeksRecord i) (recordFound c area k) nowhere
+-- what comes of a deed
+abbrev pub did : Card → Deed → Effect
+did c (turns place) = becomes (withCurrent c place)
+did c (shows place at n) = showing (withCurrent c place) (start (c .directory) place + at) n
+did c (stores place at bytes) = storing (withCurrent c place) (start (c .directory) place + at) bytes
+did c (appends place bytes) = appending c place bytes
+did c (makes f) = making c f
 
--- the command's own checks, l the record that it addresses; CLA and INS not together in the list: 6D00
+-- what comes of a touch
+abbrev pub touched : Card → Touch → List ℕ → Effect
+touched c nothing random = becomes c
+touched c (presents w value given) random = compared w c (same value given)
+touched c (changes w d) random = changing w c d
+touched c (reloads w d) random = reloading w c d
+touched c (challenges n) random = saying c (take n random)
+
+abbrev pub effectBy : Rule → Card → Located → Command → List ℕ → Effect
+effectBy (ofFiles t d) c l k random = did c (d c l k)
+effectBy (ofCredentials t d) c l k random = touched c (d (logins c) (challenge c) k) random
+
+-- of a command by its name
 unfoldable pub checks : Ins → Card → Located → Command → List ℕ
-checks Select c l k = selectChecks c k
-checks ReadBinary c l k = readBinaryChecks c k
-checks UpdateBinary c l k = updateBinaryChecks c k
-checks ReadRecord c l k = readRecordChecks c l k
-checks UpdateRecord c l k = updateRecordChecks c l k
-checks AppendRecord c l k = appendChecks c k
-checks Verify c l k = verifyChecks (logins c) k
-checks Authenticate c l k = authenticateChecks (logins c) (challenge c) k
-checks ChangePin c l k = changeChecks (logins c) k
-checks ReloadPin c l k = reloadChecks (logins c) k
-checks CreateFile c l k = createChecks c k
-checks GetChallenge c l k = getChallengeChecks k
-checks Unlisted c l k = 0x6D00 ∷ []
+checks i c l k = checksOf (rule i) c l k
 
 unfoldable pub effectOf : Ins → Card → Located → Command → List ℕ → Effect
-effectOf Select c l k random = selectEffect c k
-effectOf ReadBinary c l k random = readBinaryEffect c k
-effectOf UpdateBinary c l k random = updateBinaryEffect c k
-effectOf ReadRecord c l k random = readRecordEffect c l k
-effectOf UpdateRecord c l k random = updateRecordEffect c l k
-effectOf AppendRecord c l k random = appendEffect c k
-effectOf Verify c l k random = verifyEffect c k
-effectOf Authenticate c l k random = authenticateEffect c k
-effectOf ChangePin c l k random = changeEffect c k
-effectOf ReloadPin c l k random = reloadEffect c k
-effectOf CreateFile c l k random = createEffect c k
-effectOf GetChallenge c l k random = getChallengeEffect c k random
-effectOf Unlisted c l k random = becomes c
+effectOf i c l k random = effectBy (rule i) c l k random
 
 -- framing, then class, then the list and the command's own checks
 abbrev pub swOf : Ins → Card → Located → Command → ℕ
@@ -100,4 +78,4 @@ settled e area = record {
 }
 
 unfoldable pub step : Card → List ℕ → List ℕ → List ℕ → Stepped
-step c area cmd random = settled (outcome (listed (framed cmd)) c (addressed (listed (framed cmd)) c area (framed cmd)) (framed cmd) random) area
+step c area cmd random = settled (outcome (listed (framed cmd)) c (recordFound c area (framed cmd)) (framed cmd) random) area

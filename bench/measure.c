@@ -1,0 +1,30 @@
+#define _POSIX_C_SOURCE 200809L /* clock_gettime */
+#include "measure.h"
+
+#include <stdio.h>
+#include <stdlib.h>
+#include <string.h>
+#include <time.h>
+
+double now(void)
+{
+    struct timespec t;
+
+    clock_gettime(CLOCK_MONOTONIC, &t);
+    return (double)t.tv_sec + 1e-9 * (double)t.tv_nsec;
+}
+
+int read_rounds(int count, char **arguments, const char *usage)
+{
+    int rounds = count == 2 ? atoi(arguments[1]) : 0;
+
+    if (count == 2 && strcmp(arguments[1], "--help") == 0) {
+        fputs(usage, stdout);
+        exit(EXIT_SUCCESS);
+    }
+    if (rounds < 1 || rounds > 999) {
+        fputs(usage, stderr);
+        exit(2);
+    }
+    return rounds;
+}

@@ -1,0 +1,390 @@
+-- What each command's rule is against its role, a clause for each command. All other proofs go by the rule: what a command does to the files, or to the
+-- credentials.
+use Prim.Native.Nat.{ℕ, _+_, _≤_}
+use mathlib.Core.Bool.{Bool, true, false, cond, not}
+use mathlib.Core.List.{List, [], _∷_}
+use mathlib.Core.Path.{_≡_, refl, sym, ap, _∙_}
+use native.Mathlib.Omega.{arith}
+use lib.ListN.{length, take}
+use lib.Dec.{eqb}
+use borrow.Author.Tests.{eqb-true, not-true}
+use Rattle.files.specs.declared.File.{File}
+use Rattle.files.specs.declared.Located.{Located}
+use Rattle.files.specs.Words.{isZero}
+use Rattle.files.specs.Types.{binary, isVariable, size}
+use Rattle.files.specs.Directory.{extent}
+use Rattle.files.specs.Record.{nextStart, entry, appended, appendsRecord}
+use Rattle.files.specs.Create.{areaSize, creates}
+use Rattle.files.proofs.Checks.{split}
+use Rattle.files.proofs.Parting.{Stored, stored-plain}
+use Rattle.files.proofs.Served.{binary-fits}
+use Rattle.files.proofs.Kept.{filed}
+use Rattle.rules.specs.declared.Card.{Card}
+use Rattle.rules.specs.declared.Ins.{Ins}
+use Rattle.rules.specs.declared.Ins.the-variants.{Select, ReadBinary, UpdateBinary, ReadRecord, UpdateRecord, AppendRecord, Verify, Authenticate, ChangePin, ReloadPin, CreateFile, GetChallenge, Unlisted}
+use Rattle.rules.specs.Words.{unless, first}
+use Rattle.rules.specs.State.{Which, admin, user, device, numberOf, Login, Logins, login, logins, challenge}
+use Rattle.rules.specs.Sound.{isKey, goodPin, goodChallenge, sound}
+use Rattle.rules.specs.Frame.{Command, lc, frameSw, classSw}
+use Rattle.rules.specs.Effect.{Deed, turns, shows, stores, appends, makes, Touch, nothing, presents, changes, reloads, challenges, Effect, answers}
+use Rattle.rules.specs.Select.{selectChecks}
+use Rattle.rules.specs.Binary.{target, fileOf, fileSw, opens, rightSw, offset, binaryTarget, readCount, readBinaryChecks, updateBinaryChecks}
+use Rattle.rules.specs.Record.{recordTarget, recordFound, readRecordChecks, updateRecordChecks, appendChecks}
+use Rattle.rules.specs.Pins.{whichOf, pinNamed, pinGiven, triesSw, digitsSw, verifyChecks, changeChecks, reloadChecks}
+use Rattle.rules.specs.Device.{authenticateChecks, getChallengeChecks}
+use Rattle.rules.specs.Create.{fileGiven, createChecks}
+use Rattle.rules.specs.List.{makesFile, role, Rule, ofFiles, ofCredentials, rule}
+use Rattle.rules.specs.Step.{checksOf, did, touched, effectBy, checks, effectOf, outcome}
+use Rattle.rules.proofs.Checks.{Passed, passed, holds, ruled-by}
+use Rattle.rules.proofs.Good.{sound-good}
+use Rattle.rules.proofs.Targets.{not-zero, read-few, target-low, selected-low}
+use Rattle.rules.proofs.Asked.{some-file, binary-asked, create-asked, pin-asked, challenge-asked}
+use Rattle.rules.proofs.Found.{read-fits, read-long, update-fits, update-stored, append-fits, append-stored}
+use Rattle.rules.proofs.Found as found
+use Rattle.rules.proofs.Equal.{cryptogram-is}
+use Rattle.demands.specs.Ledger.{Kind, other, changed, reloaded, Label, passes, presented, about, kind, challenged, labelGiven, labelled}
+use Rattle.demands.specs.Files.{writesTo, readsFrom, labelOf}
+use Rattle.demands.proofs.Labels.{Matches, given-label, create-same}
+
+-- what a touch is to a credential, and the challenge that it leaves
+abbrev pub kindOf : Touch → Which → Kind
+kindOf nothing w = other
+kindOf (presents v value given) w = about v w (presented value given)
+kindOf (changes v d) w = about v w (changed d)
+kindOf (reloads v d) w = about v w (reloaded d)
+kindOf (challenges n) w = other
+
+abbrev pub leftBy : Touch → List ℕ → List ℕ
+leftBy nothing random = []
+leftBy (presents v value given) random = []
+leftBy (changes v d) random = []
+leftBy (reloads v d) random = []
+leftBy (challenges n) random = take n random
+
+-- the labels that a deed leaves
+abbrev pub labelsBy : Deed → List Label → List Label
+labelsBy (turns place) made = made
+labelsBy (shows place at n) made = made
+labelsBy (stores place at d) made = made
+labelsBy (appends place d) made = made
+labelsBy (makes f) made = labelOf f ∷ made
+
+-- what a touch has by the checks: a try left; a PIN, its right held, and a good one given; the user PIN, the admin right held, and a good one given; a
+-- challenge of 4, 8 or 16 bytes
+abbrev pub FairTouch : Logins → Touch → Type 0
+FairTouch l nothing = Unit
+FairTouch l (presents w value given) = 1 ≤ l w .tries .left
+FairTouch l (changes w d) = (isKey (numberOf w) ≡ false) × (l w .held ≡ true) × (goodPin d ≡ true)
+FairTouch l (reloads w d) = (w ≡ user) × (l admin .held ≡ true) × (goodPin d ≡ true)
+FairTouch l (challenges n) = goodChallenge n ≡ true
+
+-- a file that is there, is the one that the command addresses, and whose right is held
+pub record Entitled (c : Card) (named place right : ℕ) : Type 0 where
+  pub named-is : named ≡ place
+  pub some : 1 ≤ place
+  pub low : place ≤ c .directory .count
+  pub held : opens c right ≡ true
+
+pub record FairShow (c : Card) (k : Command) (named place at n : ℕ) : Type 0 where
+  pub entitled : Entitled c named place (fileOf c place .read)
+  pub fits : at + n ≤ size (fileOf c place)
+  pub few : k .le ≤ 256 → n ≤ 256
+
+-- bytes that leave the file parted, which is then f
+pub record FairStore (c : Card) (area : List ℕ) (named place at : ℕ) (f : File) (bytes : List ℕ) : Type 0 where
+  pub entitled : Entitled c named place (fileOf c place .write)
+  pub fits : at + length bytes ≤ size (fileOf c place)
+  pub stored : Stored (fileOf c place) f (extent (c .directory) place area) at bytes
+
+pub record FairAppend (c : Card) (area : List ℕ) (named place : ℕ) (d : List ℕ) : Type 0 where
+  pub fair :
+      FairStore c area named place (nextStart (fileOf c place)) (appended (fileOf c place) (length d)) (entry (fileOf c place) d)
+  pub served : appendsRecord (fileOf c place) (length d) ≡ true
+
+pub record FairMake (i : Ins) (c : Card) (k : Command) (f : File) : Type 0 where
+  pub by-create : i ≡ CreateFile
+  pub held : login device c .held ≡ true
+  pub given : labelOf f ≡ labelGiven k
+  pub served : creates (c .directory) f areaSize ≡ true
+
+-- what a deed has by the checks, on a sound card
+abbrev pub Fair : Ins → Card → List ℕ → Command → Deed → Type 0
+Fair i c area k (turns place) = place ≤ c .directory .count
+Fair i c area k (shows place at n) = FairShow c k (readsFrom (role i) c k) place at n
+Fair i c area k (stores place at d) = FairStore c area (writesTo (role i) c k) place at (fileOf c place) d
+Fair i c area k (appends place d) = FairAppend c area (writesTo (role i) c k) place d
+Fair i c area k (makes f) = FairMake i c k f
+
+-- a rule of files is nothing to the ledger's credentials, it makes what its deed makes, where the checks pass, and its deed is fair
+pub record FileRow (i : Ins) (t : Card → Located → Command → List ℕ) (d : Card → Located → Command → Deed) : Type 0 where
+  pub kind-is : (l : Logins) (ch : List ℕ) (k : Command) (w : Which) → kind (role i) l ch k w ≡ other
+  pub left-is : (k : Command) (random : List ℕ) → challenged (role i) k random ≡ []
+  pub labels-are : (c : Card) (area : List ℕ) → sound c area ≡ true → (made : List Label) → Matches (c .directory) made → (k : Command)
+      → labelled (role i) (logins c) made k
+      ≡ cond (passes (t c (recordFound c area k) k) k) (labelsBy (d c (recordFound c area k) k) made) made
+  pub fair : (c : Card) (area : List ℕ) → sound c area ≡ true → (k : Command) → Passed (t c (recordFound c area k) k)
+      → Fair i c area k (d c (recordFound c area k) k)
+
+-- a rule of credentials is to the ledger what its touch is, where the checks pass, it makes no file, and its touch is fair
+pub record TouchRow (i : Ins) (t : Logins → List ℕ → Command → List ℕ) (d : Logins → List ℕ → Command → Touch) : Type 0 where
+  pub kind-is : (l : Logins) (ch : List ℕ) (k : Command) (w : Which)
+      → kind (role i) l ch k w ≡ cond (passes (t l ch k) k) (kindOf (d l ch k) w) other
+  pub left-is : (l : Logins) (ch : List ℕ) (k : Command) (random : List ℕ)
+      → challenged (role i) k random ≡ cond (passes (t l ch k) k) (leftBy (d l ch k) random) []
+  pub labels-are : (l : Logins) (made : List Label) (k : Command) → labelled (role i) l made k ≡ made
+  pub fair : (l : Logins) (ch : List ℕ) (k : Command) → Passed (t l ch k) → FairTouch l (d l ch k)
+
+abbrev pub Row : Ins → Rule → Type 0
+Row i (ofFiles t d) = FileRow i t d
+Row i (ofCredentials t d) = TouchRow i t d
+
+-- every check of the command passed
+pub all-passed : (l : List ℕ) (k : Command) → passes l k ≡ true → Passed l
+all-passed l k e = passed l (passed (frameSw k ∷ classSw k ∷ first l ∷ []) (eqb-true _ _ e) .1 .1 .0)
+
+-- a binary file has no length bytes
+binary-plain : (f : File) → unless (eqb (f .kind) binary) 0x6981 ≡ 0x9000 → isVariable f ≡ false
+binary-plain f h = let e : f .kind ≡ binary = eqb-true _ _ (holds (eqb (f .kind) binary) 0x6981 refl h) in rw e
+
+-- what the passed checks tell of the file that a command addresses
+module _ (c : Card) (area : List ℕ) (h : sound c area ≡ true) (k : Command) where
+  entitled : (sfi byte : ℕ) → fileSw (target c sfi) ≡ 0x9000 → rightSw c byte ≡ 0x9000 → Entitled c (target c sfi) (target c sfi) byte
+  entitled sfi byte f r = record {
+    named-is = refl;
+    some = some-file (target c sfi) f;
+    low = target-low c (sound-good c area h) sfi;
+    held = holds (opens c byte) 0x6982 refl r;
+  }
+
+  -- the file that a binary command addresses, and that of a record command
+  abbrev b : ℕ
+  b = binaryTarget c k
+
+  abbrev t : ℕ
+  t = recordTarget c k
+
+  abbrev l : Located
+  l = recordFound c area k
+
+  binary-read : Passed (readBinaryChecks c k) → FairShow c k b b (offset k) (readCount (fileOf c b) k)
+  unfolding readBinaryChecks
+  binary-read p =
+      let n = readCount (fileOf c b) k in
+      record {
+        entitled = entitled _ _ (p .1 .1 .0) (p .1 .1 .1 .1 .0);
+        fits = binary-fits _ (offset k) n (binary-asked c b _ (offset k) n (p .1 .1));
+        few = read-few (fileOf c b) k;
+      }
+
+  binary-update : Passed (updateBinaryChecks c k) → FairStore c area b b (offset k) (fileOf c b) (k .given)
+  unfolding updateBinaryChecks
+  binary-update p = record {
+    entitled = entitled _ _ (p .1 .1 .0) (p .1 .1 .1 .1 .0);
+    fits = binary-fits _ (offset k) (lc k) (binary-asked c b _ (offset k) (lc k) (p .1 .1));
+    stored = stored-plain _ _ _ _ _ (binary-plain (fileOf c b) (p .1 .1 .1 .0));
+  }
+
+  record-read : Passed (readRecordChecks c l k) → FairShow c k t t (l .start) (l .length)
+  unfolding readRecordChecks
+  record-read p =
+      let some = some-file t (p .1 .1 .0) in
+      let long = read-long c area h k some p in
+      record {
+        entitled = entitled _ _ (p .1 .1 .0) (p .1 .1 .1 .1 .0);
+        fits = read-fits c area h k some p;
+        few = λ m. omega (arith, long);
+      }
+
+  record-update : Passed (updateRecordChecks c l k) → FairStore c area t t (l .start) (fileOf c t) (k .given)
+  unfolding updateRecordChecks
+  record-update p =
+      let some = some-file t (p .1 .1 .0) in
+      record {
+        entitled = entitled _ _ (p .1 .1 .0) (p .1 .1 .1 .1 .0);
+        fits = update-fits c area h k some p;
+        stored = update-stored c area h k some p;
+      }
+
+  record-append : Passed (appendChecks c k) → FairAppend c area t t (k .given)
+  unfolding appendChecks
+  record-append p =
+      let some = some-file t (p .1 .1 .0) in
+      record {
+        fair = record {
+          entitled = entitled _ _ (p .1 .1 .0) (p .1 .1 .1 .1 .0);
+          fits = append-fits c area h k some p;
+          stored = append-stored c area h k some p;
+        };
+        served = found.appends c area h k some p;
+      }
+
+  file-make : Passed (createChecks c k) → FairMake CreateFile c k (fileGiven k)
+  unfolding createChecks
+  file-make p = record {
+    by-create = refl;
+    held = holds (login device c .held) 0x6982 refl (p .1 .1 .0);
+    given = given-label k;
+    served = create-asked c k p;
+  }
+
+-- a try is left
+try-left : (l : Login) → triesSw l ≡ 0x9000 → 1 ≤ l .tries .left
+try-left l h = not-zero (l .tries .left) (not-true (isZero (l .tries .left)) (holds (not (isZero (l .tries .left))) 0x6983 refl h))
+
+-- P2 names a PIN
+never-key : (b : Bool) → isKey (numberOf (whichOf b admin user)) ≡ false
+never-key true = refl
+never-key false = refl
+
+-- a VERIFY without data is nothing
+module _ (b : Bool) (v : Which) (value given : List ℕ) where
+  query-kind : (w : Which) → cond b other (about v w (presented value given)) ≡ kindOf (cond b nothing (presents v value given)) w
+  query-kind w = split (λ t. cond b other (about v w (presented value given)) ≡ kindOf t w) b (λ e. rw e) (λ e. rw e)
+
+  query-left : (p : Bool) (random : List ℕ) → [] ≡ cond p (leftBy (cond b nothing (presents v value given)) random) []
+  query-left p random = split (λ x. [] ≡ x) p (λ e. split (λ t. [] ≡ leftBy t random) b (λ q. refl) (λ q. refl)) (λ e. refl)
+
+-- the same whether the checks pass or not
+either-way : {A : Type 0} (p : Bool) (x : A) → x ≡ cond p x x
+either-way true x = refl
+either-way false x = refl
+
+-- what is made where the checks of CREATE FILE pass
+made-label : (c : Card) (area : List ℕ) → sound c area ≡ true → (made : List Label) → Matches (c .directory) made → (k : Command)
+    → labelled makesFile (logins c) made k ≡ cond (passes (createChecks c k) k) (labelOf (fileGiven k) ∷ made) made
+unfolding labelled
+made-label c area h made m k =
+    ap (λ (t : List ℕ). cond (passes t k) (labelGiven k ∷ made) made)
+    (sym (create-same c (filed (c .directory) (sound-good c area h .directory) .few) made m k))
+    ∙ ap (λ (x : Label). cond (passes (createChecks c k) k) (x ∷ made) made) (sym (given-label k))
+
+module _ (l : Logins) (k : Command) where
+  pin-presented : Passed (verifyChecks l k) → FairTouch l (cond (eqb (k .case) 1) nothing (presents (pinNamed k) (l (pinNamed k) .value) (k .given)))
+  unfolding verifyChecks
+  pin-presented p =
+      split (FairTouch l) (eqb (k .case) 1) (λ e. tt)
+      (λ e. let t : first (triesSw (l (pinNamed k)) ∷ digitsSw k ∷ []) ≡ 0x9000 = rw e at (p .1 .1 .0) in
+      try-left (l (pinNamed k)) (passed (triesSw (l (pinNamed k)) ∷ digitsSw k ∷ []) t .0))
+
+  key-presented : (ch : List ℕ) → Passed (authenticateChecks l ch k) → 1 ≤ l device .tries .left
+  unfolding authenticateChecks
+  key-presented ch p = try-left (l device) (p .1 .1 .0)
+
+  pin-changed : Passed (changeChecks l k) → FairTouch l (changes (pinNamed k) (k .given))
+  unfolding changeChecks
+  pin-changed p = (
+    never-key (isZero (k .p2)),
+    holds (l (pinNamed k) .held) 0x6982 refl (p .1 .1 .0),
+    pin-asked k (holds (pinGiven k) 0x6700 refl (p .1 .0)) (p .1 .1 .1 .0),
+  )
+
+  pin-reloaded : Passed (reloadChecks l k) → FairTouch l (reloads user (k .given))
+  unfolding reloadChecks
+  pin-reloaded p = (refl, holds (l admin .held) 0x6982 refl (p .1 .1 .0), pin-asked k (holds (pinGiven k) 0x6700 refl (p .1 .0)) (p .1 .1 .1 .0))
+
+pub row : (i : Ins) → Row i (rule i)
+unfolding rule kind challenged labelled writesTo readsFrom
+row Select = record {
+  kind-is = λ l ch k w. refl;
+  left-is = λ k random. refl;
+  labels-are = λ c area h made m k. either-way (passes (selectChecks c k) k) made;
+  fair = λ c area h k p. selected-low c (sound-good c area h) k;
+}
+row ReadBinary = record {
+  kind-is = λ l ch k w. refl;
+  left-is = λ k random. refl;
+  labels-are = λ c area h made m k. either-way (passes (readBinaryChecks c k) k) made;
+  fair = λ c area h k p. binary-read c area h k p;
+}
+row UpdateBinary = record {
+  kind-is = λ l ch k w. refl;
+  left-is = λ k random. refl;
+  labels-are = λ c area h made m k. either-way (passes (updateBinaryChecks c k) k) made;
+  fair = λ c area h k p. binary-update c area h k p;
+}
+row ReadRecord = record {
+  kind-is = λ l ch k w. refl;
+  left-is = λ k random. refl;
+  labels-are = λ c area h made m k. either-way (passes (readRecordChecks c (recordFound c area k) k) k) made;
+  fair = λ c area h k p. record-read c area h k p;
+}
+row UpdateRecord = record {
+  kind-is = λ l ch k w. refl;
+  left-is = λ k random. refl;
+  labels-are = λ c area h made m k. either-way (passes (updateRecordChecks c (recordFound c area k) k) k) made;
+  fair = λ c area h k p. record-update c area h k p;
+}
+row AppendRecord = record {
+  kind-is = λ l ch k w. refl;
+  left-is = λ k random. refl;
+  labels-are = λ c area h made m k. either-way (passes (appendChecks c k) k) made;
+  fair = λ c area h k p. record-append c area h k p;
+}
+row Verify = record {
+  kind-is = λ l ch k w.
+      ap (λ x. cond (passes (verifyChecks l k) k) x other) (query-kind (eqb (k .case) 1) (pinNamed k) (l (pinNamed k) .value) (k .given) w);
+  left-is = λ l ch k random. query-left (eqb (k .case) 1) (pinNamed k) (l (pinNamed k) .value) (k .given) (passes (verifyChecks l k) k) random;
+  labels-are = λ l made k. refl;
+  fair = λ l ch k p. pin-presented l k p;
+}
+row Authenticate = record {
+  kind-is = λ l ch k w.
+      ap (λ (x : List ℕ). cond (passes (authenticateChecks l ch k) k) (about device w (presented x (k .given))) other) (sym (cryptogram-is (l device .value) ch));
+  left-is = λ l ch k random. either-way (passes (authenticateChecks l ch k) k) [];
+  labels-are = λ l made k. refl;
+  fair = λ l ch k p. key-presented l k ch p;
+}
+row ChangePin = record {
+  kind-is = λ l ch k w. refl;
+  left-is = λ l ch k random. either-way (passes (changeChecks l k) k) [];
+  labels-are = λ l made k. refl;
+  fair = λ l ch k p. pin-changed l k p;
+}
+row ReloadPin = record {
+  kind-is = λ l ch k w. refl;
+  left-is = λ l ch k random. either-way (passes (reloadChecks l k) k) [];
+  labels-are = λ l made k. refl;
+  fair = λ l ch k p. pin-reloaded l k p;
+}
+row CreateFile = record {
+  kind-is = λ l ch k w. refl;
+  left-is = λ k random. refl;
+  labels-are = λ c area h made m k. made-label c area h made m k;
+  fair = λ c area h k p. file-make c area h k p;
+}
+row GetChallenge = record {
+  kind-is = λ l ch k w. either-way (passes (getChallengeChecks k) k) other;
+  left-is = λ l ch k random. refl;
+  labels-are = λ l made k. refl;
+  fair = λ l ch k p. challenge-asked k p;
+}
+row Unlisted = record {
+  kind-is = λ l ch k w. either-way (passes (0x6D00 ∷ []) k) other;
+  left-is = λ l ch k random. either-way (passes (0x6D00 ∷ []) k) [];
+  labels-are = λ l made k. refl;
+  fair = λ l ch k p. tt;
+}
+
+-- what holds of each fair deed, of each fair touch and of a refusal holds of the outcome
+pub by-rule : (P : Effect → Type 0) (i : Ins) (c : Card) (area : List ℕ) → sound c area ≡ true → (k : Command) (random : List ℕ)
+    → ((d : Deed) → Fair i c area k d → P (did c d))
+    → ((t : Touch) → FairTouch (logins c) t → P (touched c t random))
+    → ((sw : ℕ) → P (answers sw c))
+    → P (outcome i c (recordFound c area k) k random)
+unfolding checks effectOf
+by-rule P i c area h k random f g n = ruled-by P i c (recordFound c area k) k random (go (rule i) (row i)) n
+  where
+    go : (r : Rule) → Row i r → Passed (checksOf r c (recordFound c area k) k) → P (effectBy r c (recordFound c area k) k random)
+    go (ofFiles t d) q p = f (d c (recordFound c area k) k) (q .fair c area h k p)
+    go (ofCredentials t d) q p = g (d (logins c) (challenge c) k) (q .fair (logins c) (challenge c) k p)
+
+-- what holds of each fair touch, and of nothing at all, holds of what a command is to a credential
+pub kind-by : (P : Kind → Type 0) (i : Ins) (l : Logins) (ch : List ℕ) (k : Command) (w : Which)
+    → P other → ((t : Touch) → FairTouch l t → P (kindOf t w)) → P (kind (role i) l ch k w)
+kind-by P i l ch k w n f = go (rule i) (row i)
+  where
+    go : (r : Rule) → Row i r → P (kind (role i) l ch k w)
+    go (ofFiles t d) q = rw (q .kind-is l ch k w) n
+    go (ofCredentials t d) q =
+        rw (q .kind-is l ch k w)
+        (split P (passes (t l ch k) k) (λ e. f (d l ch k) (q .fair l ch k (all-passed (t l ch k) k e))) (λ e. n))

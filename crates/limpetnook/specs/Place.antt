@@ -1,0 +1,34 @@
+-- Calls on a card that stays where it lies: what they return, and what they leave there.
+use Prim.Native.Nat.{ℕ}
+use mathlib.Core.List.{List}
+use mathlib.Core.Path.{_≡_}
+use prog.Memory.{size}
+use Rattle.rules.specs.declared.Card.{Card}
+use Rattle.rules.specs.declared.Answer.{Answer}
+use Rattle.rules.specs.Calls.{Done, Issued}
+use Rattle.rules.proofs.Card.Laws.{mir}
+
+-- the answer's outcome is returned, and its card stands where the card was lent
+pub record Placed (a : Answer) (r : ℕ) (card′ : Card) : Type 0 where
+  pub outcome-is : r ≡ a .outcome
+  pub card-is : card′ ≡ a .card
+
+-- the same of an issue, with the area that it leaves
+pub record PlacesIssue (i : Issued) (r : ℕ) (card′ : Card) (area′ : List ℕ) : Type 0 where
+  pub placed : Placed (i .answer) r card′
+  pub area-is : area′ ≡ i .area
+
+-- the same of a command, with the area and the reply that it leaves, and how many bytes of the reply are the answer
+pub record PlacesCommand (d : Done) (r : ℕ) (card′ : Card) (area′ reply′ : List ℕ) (count′ : ℕ) : Type 0 where
+  pub placed : Placed (d .answer) r card′
+  pub area-is : area′ ≡ d .area
+  pub reply-is : reply′ ≡ d .reply
+  pub count-is : count′ ≡ d .answer .n
+
+-- the bytes that a card takes, as C lays a struct out
+abbrev pub cardSize : ℕ
+cardSize = size mir
+
+-- the number that tells versions of the card apart: 1 for document 01, and one more for each landing since that changed the card or the cipher
+abbrev pub version : ℕ
+version = 5

@@ -1,0 +1,93 @@
+// The calls for C, all of them: include/limpetnook.h declares each. A card is lent by `&mut` and driven in place through call after call: each
+// function calls the one of `card` that takes a card by value, and stores the answer.
+ghost use mathlib.Core.Path.{_≡_};
+ghost use Rattle.rules.specs.Calls.{issue, command, reset};
+ghost use Rattle.cipher.specs.Call.{Enciphered};
+ghost use Rattle.card.specs.Ordered.{orderOf};
+ghost use Rattle.limpetnook.specs.Place.{Placed, PlacesIssue, PlacesCommand, cardSize, version};
+use card::issue::issue;
+use card::issue::reset;
+use card::step::command;
+use cipher::encipher;
+use rules::Card;
+
+// No function of the language says how large a value is; the contract does.
+const CARD_SIZE: usize = 255;
+
+// The bytes that a card takes.
+#[no_mangle]
+pub extern "C" fn limpet_card_size() -> usize
+    ensures { λ r. ⌜ r ≡ cardSize ⌝ }
+{
+    CARD_SIZE
+}
+
+// The header has the same number: a caller can tell whether library and header go together.
+#[no_mangle]
+pub extern "C" fn limpet_version() -> u32
+    ensures { λ r. ⌜ r ≡ version ⌝ }
+{
+    5
+}
+
+// One block of AES-128.
+#[no_mangle]
+pub extern "C" fn limpet_aes128(key: &[u8], block: &[u8], out: &mut [u8]) -> u8
+    ensures { λ r. ⌜ Enciphered (now (key .entry)) (now (block .entry)) (now (out .entry)) r (now (out .exit)) ⌝ }
+{
+    encipher(key, block, out)
+}
+
+// The card before it does not matter; a refused issue leaves a blank one.
+#[no_mangle]
+pub extern "C" fn limpet_issue(
+    card: &mut Card,
+    area: &mut [u8],
+    key: &[u8],
+    device_limit: u16,
+    admin_pin: &[u8],
+    admin_limit: u16,
+    user_pin: &[u8],
+    user_limit: u16,
+) -> u8
+    ensures { λ r. ⌜ PlacesIssue (issue (orderOf (now (key .entry)) «device_limit» (now («admin_pin» .entry)) «admin_limit» (now («user_pin» .entry)) «user_limit») (now (area .entry))) r (now (card .exit)) (now (area .exit)) ⌝ }
+{
+    let issued = issue(
+        area,
+        key,
+        device_limit,
+        admin_pin,
+        admin_limit,
+        user_pin,
+        user_limit,
+    );
+    *card = issued.card;
+    issued.outcome
+}
+
+// How many bytes of the reply are the answer is stored through count.
+#[no_mangle]
+pub extern "C" fn limpet_command(
+    card: &mut Card,
+    area: &mut [u8],
+    cmd: &[u8],
+    random: &[u8],
+    reply: &mut [u8],
+    count: &mut usize,
+) -> u8
+    ensures { λ r. ⌜ PlacesCommand (command (now (card .entry)) (now (area .entry)) (now (cmd .entry)) (now (random .entry)) (now (reply .entry))) r (now (card .exit)) (now (area .exit)) (now (reply .exit)) (now (count .exit)) ⌝ }
+{
+    let done = command(*card, area, cmd, random, reply);
+    *card = done.card;
+    *count = done.n;
+    done.outcome
+}
+
+#[no_mangle]
+pub extern "C" fn limpet_reset(card: &mut Card, area: &[u8]) -> u8
+    ensures { λ r. ⌜ Placed (reset (now (card .entry)) (now (area .entry))) r (now (card .exit)) ⌝ }
+{
+    let cleared = reset(*card, area);
+    *card = cleared.card;
+    cleared.outcome
+}

@@ -1,0 +1,198 @@
+#include "cards.h"
+
+#include <stdbool.h>
+#include <stdio.h>
+#include <string.h>
+
+#include "fips.h"
+
+#define ADMIN_PIN "87654321"
+#define USER_PIN "1234567890123456"
+
+struct given given_bytes(const uint8_t *bytes, size_t length)
+{
+    return (struct given){ bytes, length, false };
+}
+
+struct given given_text(const char *text)
+{
+    return given_bytes((const uint8_t *)text, strlen(text));
+}
+
+struct order good_order(void)
+{
+    return (struct order){
+        .key = given_bytes(c1_key, sizeof c1_key), .device_limit = 128,
+        .admin_pin = given_text(ADMIN_PIN), .admin_limit = 5,
+        .user_pin = given_text(USER_PIN), .user_limit = 3
+    };
+}
+
+unsigned tell(struct held *h, const char *command)
+{
+    uint8_t bytes[300];
+    size_t length = 0;
+    unsigned byte;
+    int read;
+
+    while (length < sizeof bytes && sscanf(command, " %2x%n", &byte, &read) == 1) {
+        bytes[length++] = (uint8_t)byte;
+        command += read;
+    }
+    struct answer a = watched_command(h, given_bytes(bytes, length),
+                                      given_bytes(c1_block, sizeof c1_block), LIMPET_REPLY_SIZE, false);
+    if (a.outcome != LIMPET_OK)
+        return 0;
+    return 256u * a.reply[a.count - 2] + a.reply[a.count - 1];
+}
+
+/* A step in the making of a card: it has to end 9000. */
+static void told(struct held *h, const char *command)
+{
+    unsigned sw = tell(h, command);
+
+    if (sw != 0x9000)
+        wrong("the command %s of a card in the making ends %04X", command, sw);
+}
+
+static void log_in_device(struct held *h)
+{
+    told(h, "00 84 0000 10");
+    told(h, "00 82 0000 10 69C4E0D86A7B0430D8CDB78070B4C55A");
+}
+
+static void log_in_pins(struct held *h)
+{
+    told(h, "00 20 0000 08 3837363534333231");
+    told(h, "00 20 0001 10 31323334353637383930313233343536");
+}
+
+static void issue(struct held *h)
+{
+    struct order o = good_order();
+
+    if (watched_issue(h, &o) != LIMPET_OK)
+        wrong("a good order is refused");
+}
+
+/* A file of each type but 2C; four records appended to three places; the cyclic file is current. */
+static void with_files(struct held *h)
+{
+    issue(h);
+    log_in_device(h);
+    told(h, "80 E0 0101 05 28 0040 00 01");
+    told(h, "80 E0 0102 05 2A 0405 80 01");
+    told(h, "80 E0 0103 05 2E 0304 00 00");
+    told(h, "00 D6 8104 03 A1A2A3");
+    told(h, "00 DC 0214 05 B1B2B3B4B5");
+    told(h, "00 E2 0018 04 C1C1C1C1");
+    told(h, "00 E2 0018 04 C2C2C2C2");
+    told(h, "00 E2 0018 04 C3C3C3C3");
+    told(h, "00 E2 0018 04 C4C4C4C4");
+    if (watched_reset(h) != LIMPET_OK)
+        wrong("a reset of a card in the making is refused");
+    told(h, "00 A4 0000 02 0103");
+}
+
+static void with_rights(struct held *h)
+{
+    with_files(h);
+    log_in_device(h);
+    log_in_pins(h);
+    told(h, "00 84 0000 08");
+}
+
+/* One cyclic file with a record, user PIN without tries, admin PIN with some gone, a challenge of 16. */
+static void locked(struct held *h)
+{
+    issue(h);
+    log_in_device(h);
+    told(h, "80 E0 2A1E 05 2E FE10 0F 00");
+    told(h, "00 E2 0000 10 D0D1D2D3D4D5D6D7D8D9DADBDCDDDEDF");
+    for (int i = 0; i < 3; i++)
+        tell(h, "00 20 0001 06 313131313131");
+    tell(h, "00 20 0000 06 313131313131");
+    told(h, "00 84 0000 10");
+}
+
+/* Sixteen files, the whole area taken, device right held. */
+static void full(struct held *h)
+{
+    char command[64];
+
+    issue(h);
+    log_in_device(h);
+    for (unsigned sfi = 1; sfi <= 16; sfi++) {
+        snprintf(command, sizeof command, "80 E0 %04X 05 %s 41 C1", 0x4000 + sfi, sfi % 2 ? "28 0100" : "2E 4004");
+        told(h, command);
+    }
+}
+
+/* Appends one record of so many bytes, all of that value. */
+static void append_run(struct held *h, unsigned sfi, unsigned length, unsigned value)
+{
+    char command[16 + 2 * 178];
+    int written = snprintf(command, sizeof command, "00 E2 00%02X %02X ", 8 * sfi, length);
+
+    for (unsigned i = 0; i < length; i++)
+        written += snprintf(command + written, sizeof command - (size_t)written, "%02X", value);
+    told(h, command);
+}
+
+/*
+ * Files of type 2C: all but full, with room, full, the smallest, with the longest record, empty, and full at the area's end; files of
+ * other types between. Records hold small numbers, so that other lengths than their own may part the used bytes too.
+ */
+static void with_notes(struct held *h)
+{
+    issue(h);
+    log_in_device(h);
+    told(h, "80 E0 0101 05 28 0010 00 01");
+    told(h, "80 E0 0102 05 2C 0010 80 01");
+    told(h, "00 E2 0010 06 464545444552");
+    told(h, "00 E2 0010 07 41554745522037");
+    told(h, "80 E0 0103 05 2C 0040 00 00");
+    told(h, "00 E2 0018 01 02");
+    told(h, "00 E2 0018 04 03020100");
+    told(h, "00 E2 0018 09 080706050403020100");
+    told(h, "80 E0 0104 05 2E 0304 00 00");
+    told(h, "00 E2 0020 04 C1C1C1C1");
+    told(h, "80 E0 0105 05 2C 000C 00 01");
+    told(h, "00 E2 0028 01 00");
+    told(h, "00 E2 0028 02 0101");
+    told(h, "00 E2 0028 06 010101010101");
+    told(h, "80 E0 0106 05 2A 0203 00 01");
+    told(h, "80 E0 0107 05 2C 0002 00 01");
+    told(h, "00 E2 0038 01 01");
+    told(h, "80 E0 0108 05 2C 0100 00 01");
+    append_run(h, 8, 178, 88);
+    append_run(h, 8, 1, 0);
+    told(h, "80 E0 0109 05 2C 0020 00 01");
+    told(h, "80 E0 010A 05 28 0E30 00 01");
+    told(h, "80 E0 010B 05 2C 0030 00 01");
+    for (int i = 0; i < 3; i++)
+        append_run(h, 11, 15, 15);
+    log_in_pins(h);
+    told(h, "00 A4 0000 02 0103");
+    told(h, "00 84 0000 08");
+}
+
+/* The whole area is one file of type 2C, with as many records as fit. */
+static void full_of_notes(struct held *h)
+{
+    issue(h);
+    log_in_device(h);
+    told(h, "80 E0 0103 05 2C 1000 00 00");
+    for (unsigned i = 0; i < LIMPET_AREA_SIZE / 2; i++)
+        append_run(h, 3, 1, i % 256);
+}
+
+const struct sort sorts[SORTS] = {
+    [FRESH] = { "fresh", issue },
+    [WITH_FILES] = { "with files and records", with_files },
+    [WITH_RIGHTS] = { "with all rights and a challenge", with_rights },
+    [LOCKED] = { "with a locked PIN", locked },
+    [SIXTEEN] = { "with sixteen files", full },
+    [WITH_NOTES] = { "with notes of different lengths", with_notes },
+    [FULL_OF_NOTES] = { "full of notes of one byte", full_of_notes },
+};

@@ -1,0 +1,189 @@
+#include "layout.h"
+
+#include <string.h>
+
+/* In the order of a card. */
+static const struct {
+    size_t from;
+    const char *name;
+} fields[FIELDS] = {
+    { offsetof(struct layout, credentials[DEVICE]), "device key" },
+    { offsetof(struct layout, credentials[DEVICE].length), "device key's length" },
+    { offsetof(struct layout, credentials[DEVICE].tries), "device tries and limit" },
+    { offsetof(struct layout, credentials[ADMIN]), "admin PIN" },
+    { offsetof(struct layout, credentials[ADMIN].length), "admin PIN's length" },
+    { offsetof(struct layout, credentials[ADMIN].tries), "admin tries and limit" },
+    { offsetof(struct layout, credentials[USER]), "user PIN" },
+    { offsetof(struct layout, credentials[USER].length), "user PIN's length" },
+    { offsetof(struct layout, credentials[USER].tries), "user tries and limit" },
+    { offsetof(struct layout, directory.files), "files" },
+    { offsetof(struct layout, directory.count), "number of files" },
+    { offsetof(struct layout, session.rights), "held rights" },
+    { offsetof(struct layout, session.current), "current file" },
+    { offsetof(struct layout, session.challenge), "challenge" },
+    { offsetof(struct layout, session.length), "challenge's length" },
+};
+
+size_t field_at(size_t place)
+{
+    size_t field = FIELDS - 1;
+
+    while (place < fields[field].from)
+        field--;
+    return field;
+}
+
+const char *field_name(size_t field)
+{
+    return fields[field].name;
+}
+
+static bool are_zero(const uint8_t *bytes, size_t from, size_t to)
+{
+    for (size_t i = from; i < to; i++)
+        if (bytes[i] != 0)
+            return false;
+    return true;
+}
+
+/* "A held right has all its tries left." And it is 0 or 1. */
+static bool sound_tries(struct tries t, uint8_t held)
+{
+    return held <= 1 && 1 <= t.limit && t.limit <= 128 && t.left <= t.limit && (held == 0 || t.left == t.limit);
+}
+
+/* A key has sixteen bytes of any value. */
+static bool sound_value(const struct credential *x, bool key)
+{
+    if (key)
+        return x->length == LIMPET_KEY_SIZE;
+    if (x->length < 6 || x->length > 16)
+        return false;
+    for (size_t i = 0; i < x->length; i++)
+        if (x->value[i] < 0x30 || x->value[i] > 0x39)
+            return false;
+    return are_zero(x->value, x->length, VALUE_ROOM);
+}
+
+static bool sound_credentials(const struct layout *c)
+{
+    for (size_t i = 0; i < CREDENTIALS; i++)
+        if (!sound_value(&c->credentials[i], i == DEVICE) || !sound_tries(c->credentials[i].tries, c->session.rights[i]))
+            return false;
+    return true;
+}
+
+static bool good_rights(uint8_t rights)
+{
+    return rights == 0x0F || (rights & ~0xC1) == 0;
+}
+
+unsigned file_size(const struct file *f)
+{
+    unsigned both = 256u * f->size1 + f->size2;
+    bool records = 2 <= f->size1 && f->size1 <= 254 && 1 <= f->size2 && f->size2 <= 178;
+
+    switch (f->type) {
+    case 0x28:
+        return both <= 4096 ? both : 0;
+    case 0x2C:
+        return 2 <= both && both <= 4096 ? both : 0;
+    case 0x2A:
+    case 0x2E:
+        return records ? (unsigned)f->size1 * f->size2 : 0;
+    default:
+        return 0;
+    }
+}
+
+static bool sound_held(const struct file *f)
+{
+    if (f->type != 0x2E)
+        return f->held == 0 && f->newest == 0;
+    return f->held <= f->size1 && f->newest < f->size1 && (f->held > 0 || f->newest == 0);
+}
+
+unsigned used_bytes(const struct file *f)
+{
+    return 256u * f->used1 + f->used2;
+}
+
+/* "Lengths of 1 to 178 part them exactly": each stands before its record. */
+static bool are_parted(const uint8_t *bytes, unsigned used)
+{
+    unsigned at = 0;
+
+    while (at < used) {
+        unsigned length = bytes[at];
+        if (length < 1 || length > 178 || at + 1 + length > used)
+            return false;
+        at += 1 + length;
+    }
+    return true;
+}
+
+/* extent: the file's part of the area, of file_size(f) bytes. */
+static bool sound_used(const struct file *f, const uint8_t *extent)
+{
+    if (f->type != 0x2C)
+        return used_bytes(f) == 0;
+    return used_bytes(f) <= file_size(f) && are_parted(extent, used_bytes(f));
+}
+
+static unsigned sfi_of(const struct file *f)
+{
+    return f->fid2 & 31u;
+}
+
+static bool sound_file(const struct file *f)
+{
+    return 1 <= sfi_of(f) && sfi_of(f) <= 30 && file_size(f) > 0 && sound_held(f)
+        && good_rights(f->read) && good_rights(f->write);
+}
+
+static bool unused_file(const struct file *f)
+{
+    static const struct file unused;
+
+    return memcmp(f, &unused, sizeof unused) == 0;
+}
+
+static bool sound_directory(const struct directory *d, const uint8_t *area)
+{
+    unsigned taken = 0;
+    uint32_t sfis = 0;
+
+    if (d->count > FILES)
+        return false;
+    for (size_t i = 0; i < FILES; i++) {
+        const struct file *f = &d->files[i];
+        if (i >= d->count) {
+            if (!unused_file(f))
+                return false;
+            continue;
+        }
+        if (!sound_file(f) || (sfis >> sfi_of(f) & 1) != 0 || taken + file_size(f) > LIMPET_AREA_SIZE
+            || !sound_used(f, area + taken))
+            return false;
+        sfis |= UINT32_C(1) << sfi_of(f);
+        taken += file_size(f);
+    }
+    return true;
+}
+
+static bool sound_challenge(const struct session *s)
+{
+    return (s->length == 0 || s->length == 4 || s->length == 8 || s->length == 16)
+        && are_zero(s->challenge, s->length, CHALLENGE_ROOM);
+}
+
+bool is_sound(const uint8_t *card, const uint8_t *area)
+{
+    struct layout c;
+
+    memcpy(&c, card, sizeof c);
+    return sound_credentials(&c)
+        && sound_directory(&c.directory, area)
+        && c.session.current <= c.directory.count
+        && sound_challenge(&c.session);
+}

@@ -1,0 +1,70 @@
+/*
+ * The bytes of a card, for tests alone: a caller has no business there. They
+ * lie as the structs of crates/rules and crates/files have them. And what
+ * document 01, "What a card holds", and request R-1 of document 02 say of them.
+ */
+#ifndef LAYOUT_H
+#define LAYOUT_H
+
+#include <stdbool.h>
+#include <stddef.h>
+#include <stdint.h>
+
+#include "limpetnook.h"
+
+enum { FILES = 16, VALUE_ROOM = 16, CHALLENGE_ROOM = 16 };
+
+/* The credentials' numbers. */
+enum { DEVICE, ADMIN, USER, CREDENTIALS };
+
+struct tries {
+    uint8_t left, limit;
+};
+
+/* A key or a PIN. */
+struct credential {
+    uint8_t value[VALUE_ROOM];
+    uint8_t length;
+    struct tries tries;
+};
+
+/* A file; its FID and its used bytes have the high byte first, and its two size bytes are CREATE's. */
+struct file {
+    uint8_t fid1, fid2, type, size1, size2, read, write, held, newest, used1, used2;
+};
+
+struct directory {
+    struct file files[FILES];
+    uint8_t count;
+};
+
+/* A right is 1 where it is held and 0 where not; the current file is its place plus one. */
+struct session {
+    uint8_t rights[CREDENTIALS];
+    uint8_t current;
+    uint8_t challenge[CHALLENGE_ROOM];
+    uint8_t length;
+};
+
+struct layout {
+    struct credential credentials[CREDENTIALS];
+    struct directory directory;
+    struct session session;
+};
+
+_Static_assert(sizeof(struct layout) == LIMPET_CARD_SIZE, "the card is laid out in another way");
+_Static_assert(_Alignof(struct layout) == 1, "the card has to be aligned");
+
+/* Which field the byte at that place belongs to, and its name, for reports. */
+enum { FIELDS = 15 };
+size_t field_at(size_t place);
+const char *field_name(size_t field);
+
+/* The bytes of the area that a file takes, 0 where its type or size is bad; and how many of them records of type 2C use. */
+unsigned file_size(const struct file *f);
+unsigned used_bytes(const struct file *f);
+
+/* Whether these bytes and those of an area of LIMPET_AREA_SIZE are together a sound state, by the papers. */
+bool is_sound(const uint8_t *card, const uint8_t *area);
+
+#endif

@@ -1,0 +1,90 @@
+/*
+ * How many bytes of stack the calls take. Each call of a script is made on a
+ * stack of its own that was filled with one value before; the deepest byte with
+ * another value tells. What this program itself puts there is taken off: it
+ * is what a line without a call takes.
+ */
+#define _XOPEN_SOURCE 700 /* ucontext.h */
+
+#include <stdlib.h>
+#include <string.h>
+#include <ucontext.h>
+
+#include "play.h"
+
+enum { ROOM = 256 * 1024, FILL = 0xA5 };
+
+static uint8_t stack[ROOM];
+static ucontext_t caller, apart;
+static struct player player;
+static const struct line *playing;
+
+static void usage(FILE *to)
+{
+    fputs("usage: stack <SCRIPT\n"
+          "\n"
+          "Plays the calls of a script and prints the most bytes of stack that an issue, a\n"
+          "command and a reset took, and those of limpet_aes128.\n", to);
+}
+
+static void play_apart(void)
+{
+    play_line(&player, playing);
+}
+
+static void encipher_apart(void)
+{
+    static const uint8_t zeros[LIMPET_AES128_SIZE];
+    static uint8_t out[LIMPET_AES128_SIZE];
+
+    limpet_aes128(zeros, sizeof zeros, zeros, sizeof zeros, out, sizeof out);
+}
+
+/* The stack grows down, so the first byte that changed is the deepest. */
+static size_t stack_of(void (*does)(void))
+{
+    size_t untouched = 0;
+
+    memset(stack, FILL, sizeof stack);
+    if (getcontext(&apart) != 0)
+        exit(2);
+    apart.uc_stack.ss_sp = stack;
+    apart.uc_stack.ss_size = sizeof stack;
+    apart.uc_link = &caller;
+    makecontext(&apart, does, 0);
+    if (swapcontext(&caller, &apart) != 0)
+        exit(2);
+    while (untouched < sizeof stack && stack[untouched] == FILL)
+        untouched++;
+    return sizeof stack - untouched;
+}
+
+static size_t stack_of_line(const struct line *l)
+{
+    playing = l;
+    return stack_of(play_apart);
+}
+
+int main(int count, char **arguments)
+{
+    static const struct line no_call = { .wrong = "no call" };
+    static const char *const names[] = { [ISSUE_LINE] = "issue", [CMD_LINE] = "command", [RESET_LINE] = "reset" };
+    size_t lines, most[] = { [ISSUE_LINE] = 0, [CMD_LINE] = 0, [RESET_LINE] = 0 };
+
+    if (count != 1) {
+        usage(count == 2 && strcmp(arguments[1], "--help") == 0 ? stdout : stderr);
+        return count == 2 && strcmp(arguments[1], "--help") == 0 ? EXIT_SUCCESS : 2;
+    }
+    size_t own = stack_of_line(&no_call);
+    struct played *script = read_script(stdin, &lines);
+    for (size_t i = 0; i < lines; i++) {
+        size_t taken = stack_of_line(&script[i].line) - own;
+        if (taken > most[script[i].line.kind])
+            most[script[i].line.kind] = taken;
+    }
+    free(script);
+    for (enum kind k = ISSUE_LINE; k <= RESET_LINE; k++)
+        printf("%zu bytes of stack: %s\n", most[k], names[k]);
+    printf("%zu bytes of stack: aes128\n", stack_of(encipher_apart));
+    return EXIT_SUCCESS;
+}

@@ -1,0 +1,93 @@
+/*
+ * Wrong presentations that differ in one thing, the place of the byte that is
+ * wrong, for a run under callgrind that counts the instructions of each call
+ * of limpet_command: count_instructions of tools/x86/common.sh.
+ *
+ * Prints a line for each such call, in order: what is presented, and the place
+ * of the wrong byte. Before each call the card is set back, so that it is the
+ * same for all calls with the same words before the place.
+ */
+#include <stdbool.h>
+#include <stdio.h>
+#include <stdlib.h>
+#include <string.h>
+
+#include "fips.h"
+#include "limpetnook.h"
+
+enum { LONGEST = 16, HEAD = 5 };
+
+static uint8_t card[LIMPET_CARD_SIZE], kept[LIMPET_CARD_SIZE];
+static uint8_t area[LIMPET_AREA_SIZE];
+static const uint8_t pin[LONGEST] = "3141592653589793"; /* without its end */
+
+/* A command whose status word must be that; the program ends where it is not. */
+static void command(const uint8_t *bytes, size_t length, unsigned due)
+{
+    uint8_t reply[LIMPET_REPLY_SIZE];
+    size_t count;
+    uint8_t outcome = limpet_command((struct limpet_card *)card, area, sizeof area, bytes, length,
+                                     c1_block, sizeof c1_block, reply, sizeof reply, &count);
+    unsigned sw = outcome == LIMPET_OK ? 256u * reply[count - 2] + reply[count - 1] : 0;
+
+    if (sw != due) {
+        fprintf(stderr, "verifies: outcome %u, status word %04X, and %04X is due\n", (unsigned)outcome, sw, due);
+        exit(EXIT_FAILURE);
+    }
+}
+
+static void issue(size_t pin_length)
+{
+    if (limpet_issue((struct limpet_card *)card, area, sizeof area, c1_key, sizeof c1_key, 100,
+                     pin, pin_length, 100, pin, pin_length, 100) != LIMPET_OK) {
+        fprintf(stderr, "verifies: a good order is refused\n");
+        exit(EXIT_FAILURE);
+    }
+    memcpy(kept, card, sizeof kept);
+}
+
+/* The right value and then, for each place, with that byte wrong. It stays a digit where it was one. */
+static void present(const char *name, const uint8_t *head, const uint8_t *value, size_t length)
+{
+    uint8_t sent[HEAD + LONGEST];
+
+    for (size_t place = 0; place <= length; place++) {
+        memcpy(sent, head, HEAD - 1);
+        sent[HEAD - 1] = (uint8_t)length;
+        memcpy(sent + HEAD, value, length);
+        if (place < length) {
+            sent[HEAD + place] ^= 1;
+            printf("%s %zu wrong %zu\n", name, length, place);
+        } else {
+            printf("%s %zu right -\n", name, length);
+        }
+        memcpy(card, kept, sizeof card);
+        command(sent, HEAD + length, place < length ? 0x63CF : 0x9000);
+    }
+}
+
+static void present_cryptogram(void)
+{
+    static const uint8_t head[] = { 0x00, 0x82, 0x00, 0x00 };
+    static const uint8_t get_challenge[] = { 0x00, 0x84, 0x00, 0x00, 0x10 };
+
+    printf("challenge - - -\n");
+    command(get_challenge, sizeof get_challenge, 0x9000);
+    memcpy(kept, card, sizeof kept);
+    present("cryptogram", head, c1_cryptogram, sizeof c1_cryptogram);
+}
+
+int main(void)
+{
+    static const uint8_t admin[] = { 0x00, 0x20, 0x00, 0x00 };
+    static const uint8_t user[] = { 0x00, 0x20, 0x00, 0x01 };
+
+    for (size_t length = 6; length <= LONGEST; length += 5) {
+        issue(length);
+        present("admin", admin, pin, length);
+        present("user", user, pin, length);
+    }
+    issue(LONGEST);
+    present_cryptogram();
+    return EXIT_SUCCESS;
+}
