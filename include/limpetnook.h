@@ -17,7 +17,7 @@
  * What is taken at most, measured and not proved (tests/footprint):
  *
  *                     code    constants   stack of a call      C functions needed
- *   liblimpetnook.a   48000   1000        LIMPET_CARD_STACK    memcpy, memset
+ *   liblimpetnook.a   64000   1500        LIMPET_TEXT_STACK    memcpy, memset
  *   limpet_aes128     1335    0           LIMPET_AES128_STACK  none
  *
  * The second row is for a program that calls limpet_aes128 alone and is linked
@@ -36,17 +36,22 @@ extern "C" {
 
 /*
  * The version of the library that this header describes. It rises by one with
- * each change of the card or the cipher, which the size of a card need not show.
+ * each change of the card, the cipher or the calls, which the size of a card
+ * need not show.
  * Compare it once, at the start:
  *
  *   if (limpet_version() != LIMPET_VERSION) ... header and library do not match
  */
-#define LIMPET_VERSION 5
+#define LIMPET_VERSION 6
 
 uint32_t limpet_version(void);
 
-/* The bytes of stack that are enough for a call: on a card, and limpet_aes128. */
+/*
+ * The bytes of stack that are enough for a call: on a card, of its two calls
+ * for a text, and of limpet_aes128.
+ */
 #define LIMPET_CARD_STACK 4096
+#define LIMPET_TEXT_STACK 16384
 #define LIMPET_AES128_STACK 512
 
 /* Outcomes. The numbers are fixed: scripts print them too. */
@@ -57,6 +62,8 @@ uint32_t limpet_version(void);
 #define LIMPET_UNSOUND 4     /* card and area are together no state of a card */
 #define LIMPET_BAD_ISSUE 5   /* issue: a key, a PIN or a limit is not good */
 #define LIMPET_BAD_LENGTH 6  /* key, block or output is not 16 bytes long */
+#define LIMPET_SHORT_TEXT 10 /* the buffer is shorter than the card's text */
+#define LIMPET_BAD_TEXT 11   /* the text is not the lines of a card */
 
 /* Bytes of a key, of a block and of an output of limpet_aes128. */
 #define LIMPET_AES128_SIZE 16
@@ -66,6 +73,7 @@ uint32_t limpet_version(void);
 #define LIMPET_RANDOM_SIZE 16  /* fresh random bytes: exactly */
 #define LIMPET_KEY_SIZE 16     /* the device key: exactly */
 #define LIMPET_REPLY_SIZE 258  /* the reply: at least */
+#define LIMPET_TEXT_SIZE 8886  /* the text of a card: no card has a longer one */
 
 /*
  * AES-128 of one block under a key (FIPS 197, encryption).
@@ -192,17 +200,61 @@ uint8_t limpet_command(struct limpet_card *card,
 uint8_t limpet_reset(struct limpet_card *card, const uint8_t *area, size_t area_len);
 
 /*
- * The caller's side of the three calls on a card:
- *   - card points to limpet_card_size() bytes that can be read and written,
- *     and is never NULL. reply_count points to a size_t, aligned as such, and
- *     is never NULL; what it holds before does not matter.
+ * Writes a card and its files as lines of text. docs/CARD-FILE.md says what
+ * stands in them: all that the card holds, the key and the PINs too. Card and
+ * area are only read.
+ *
+ *   LIMPET_OK          the first *text_count bytes of the buffer are the text.
+ *                      The rest of the buffer is as it was. There is no byte 0
+ *                      behind the text.
+ *   LIMPET_BAD_AREA    area_len is not LIMPET_AREA_SIZE.
+ *   LIMPET_UNSOUND     card and area are together no state of a card.
+ *   LIMPET_SHORT_TEXT  the text has more than text_len bytes. A buffer of
+ *                      LIMPET_TEXT_SIZE is long enough for every card.
+ *
+ * There is no other outcome, and the first that applies is returned. On a
+ * refusal the buffer is as it was, and *text_count is 0.
+ */
+uint8_t limpet_to_text(const struct limpet_card *card,
+                       const uint8_t *area, size_t area_len,
+                       uint8_t *text, size_t text_len,
+                       size_t *text_count);
+
+/*
+ * Reads a card and its files from such a text. What the card's bytes were
+ * before does not matter.
+ *
+ *   LIMPET_OK        card and area are those whose text this is. Bytes of the
+ *                    area behind the last file are 00.
+ *   LIMPET_BAD_AREA  area_len is not LIMPET_AREA_SIZE.
+ *   LIMPET_BAD_TEXT  the text is not, byte for byte, what limpet_to_text writes
+ *                    of some card.
+ *
+ * There is no other outcome, and the first that applies is returned. On a
+ * refusal the area is as it was and the card is blank, each byte of it 00: a
+ * card that was there is gone. To keep an earlier card, read into another one.
+ *
+ * A text that was read and is written again is the same text. A card that was
+ * written and is read again is the same card with the same files.
+ */
+uint8_t limpet_from_text(struct limpet_card *card,
+                         uint8_t *area, size_t area_len,
+                         const uint8_t *text, size_t text_len);
+
+/*
+ * The caller's side of the five calls on a card:
+ *   - card points to limpet_card_size() bytes that can be read, and written
+ *     too where the pointer is not to const, and is never NULL. reply_count and
+ *     text_count each point to a size_t, aligned as such, and are never NULL;
+ *     what they hold before does not matter.
  *   - Each other buffer is a pointer and a number of bytes. So many bytes can
  *     be read there, and written too where the pointer is not to const, during
  *     the whole call. That counts for a number that will be refused as well. A
  *     pointer may be NULL, or point nowhere, only where its number is 0. No such
  *     buffer has to be aligned.
- *   - card, area, reply and reply_count overlap neither each other nor any
- *     other buffer of the call. Those that are only read may overlap.
+ *   - card, a count and every buffer that the call may write overlap neither
+ *     each other nor any other buffer of the call. Those that are only read may
+ *     overlap.
  *
  * The bytes of card and area may be any. Where they are together no state of a
  * card they are refused with LIMPET_UNSOUND. Where they are one they are served

@@ -1,4 +1,9 @@
+#define _DEFAULT_SOURCE /* explicit_bzero */
 #include "card.h"
+
+#include <string.h>
+
+#include "say.h"
 
 /* The card's struct is not for C to know, so its room is bytes. */
 static uint8_t kept[LIMPET_CARD_SIZE];
@@ -11,7 +16,10 @@ static struct limpet_card *card(void)
 
 bool card_fits(void)
 {
-    return limpet_version() == LIMPET_VERSION && limpet_card_size() == LIMPET_CARD_SIZE;
+    if (limpet_version() == LIMPET_VERSION && limpet_card_size() == LIMPET_CARD_SIZE)
+        return true;
+    say("the library and include/limpetnook.h are of different versions");
+    return false;
 }
 
 uint8_t card_issue(const struct line *l)
@@ -33,6 +41,54 @@ uint8_t card_command(struct bytes command, struct bytes random, uint8_t *reply, 
                           random.at, random.len, reply, LIMPET_REPLY_SIZE, count);
 }
 
+uint8_t card_to_text(struct card_text *t)
+{
+    return limpet_to_text(card(), area, sizeof area, t->at, sizeof t->at, &t->len);
+}
+
+/* A reset only reads the area. */
+uint8_t card_to_lasting_text(struct card_text *t)
+{
+    uint8_t powered[LIMPET_CARD_SIZE], outcome;
+
+    memcpy(powered, kept, sizeof kept);
+    outcome = card_reset();
+    if (outcome == LIMPET_OK)
+        outcome = card_to_text(t);
+    memcpy(kept, powered, sizeof kept);
+    wipe(powered, sizeof powered);
+    return outcome;
+}
+
+uint8_t card_from_text(const struct card_text *t)
+{
+    return limpet_from_text(card(), area, sizeof area, t->at, t->len);
+}
+
+void card_save(struct card_copy *c)
+{
+    memcpy(c->card, kept, sizeof kept);
+    memcpy(c->area, area, sizeof area);
+}
+
+void card_put_back(const struct card_copy *c)
+{
+    memcpy(kept, c->card, sizeof kept);
+    memcpy(area, c->area, sizeof area);
+}
+
+void card_wipe(void)
+{
+    wipe(kept, sizeof kept);
+    wipe(area, sizeof area);
+}
+
+/* A plain memset of what is not read again the compiler may leave out. */
+void wipe(void *at, size_t len)
+{
+    explicit_bzero(at, len);
+}
+
 const char *outcome_says(uint8_t outcome)
 {
     static const char *const says[] = {
@@ -42,6 +98,9 @@ const char *outcome_says(uint8_t outcome)
         [LIMPET_BAD_RANDOM] = "the random input is not 16 bytes",
         [LIMPET_UNSOUND] = "the card's state is not sound",
         [LIMPET_BAD_ISSUE] = "the key is not 16 bytes, a PIN not 6 to 16 digits, or a limit not 1 to 128",
+        [LIMPET_SHORT_TEXT] = "the room for the card's lines is too short",
+        [LIMPET_BAD_TEXT] = "these are not the lines of a sound card",
     };
-    return outcome < sizeof says / sizeof says[0] ? says[outcome] : "an outcome that does not exist";
+    bool known = outcome < sizeof says / sizeof says[0] && says[outcome] != NULL;
+    return known ? says[outcome] : "an outcome that does not exist";
 }

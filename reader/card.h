@@ -16,7 +16,32 @@ uint8_t card_reset(void);
 /* random: 16 bytes. reply has room for LIMPET_REPLY_SIZE bytes; *count is how many of them are the answer. */
 uint8_t card_command(struct bytes command, struct bytes random, uint8_t *reply, size_t *count);
 
-/* Whether the header and the library that were built into this program fit. */
+/* A card written as lines. There is room for a byte more than any card takes, so that a text that is too long is seen to be. */
+struct card_text {
+    uint8_t at[LIMPET_TEXT_SIZE + 1];
+    size_t len;
+};
+
+/* The card as lines: whole, and as it is without its power, which is what lasts. The card stays as it is. */
+uint8_t card_to_text(struct card_text *t);
+uint8_t card_to_lasting_text(struct card_text *t);
+
+/* Has the card of these lines. Where they are refused there is none. */
+uint8_t card_from_text(const struct card_text *t);
+
+/* The card and its area, to be put back. */
+struct card_copy {
+    uint8_t card[LIMPET_CARD_SIZE], area[LIMPET_AREA_SIZE];
+};
+
+void card_save(struct card_copy *c);
+void card_put_back(const struct card_copy *c);
+
+/* Writes 00 over the card, and over any other bytes. */
+void card_wipe(void);
+void wipe(void *at, size_t len);
+
+/* Whether the header and the library that were built into this program fit. Says so where they do not. */
 bool card_fits(void);
 
 /* What an outcome means, in a few words. */

@@ -50,7 +50,7 @@ static int digit_value(uint8_t c)
     return -1;
 }
 
-static bool read_hex(struct bytes f, struct hex *h)
+bool read_hex(struct bytes f, struct hex *h)
 {
     if (f.len % 2 != 0 || f.len > 2 * LONGEST_HEX)
         return false;
@@ -66,7 +66,7 @@ static bool read_hex(struct bytes f, struct hex *h)
 }
 
 /* "0 or decimal without leading zeros, up to 65,535" */
-static bool read_limit(struct bytes f, uint16_t *limit)
+bool read_number(struct bytes f, uint16_t *number)
 {
     uint32_t value = 0;
 
@@ -77,7 +77,7 @@ static bool read_limit(struct bytes f, uint16_t *limit)
             return false;
         value = 10 * value + (uint32_t)(f.at[i] - '0');
     }
-    *limit = (uint16_t)value;
+    *number = (uint16_t)value;
     return value <= 65535;
 }
 
@@ -89,8 +89,8 @@ void read_issue(const struct bytes fields[ISSUE_FIELDS], struct line *l)
     l->user_pin = fields[4];
     if (!read_hex(fields[0], &l->key))
         l->wrong = "the device key is not upper-case hex";
-    else if (!read_limit(fields[1], &l->device_limit) || !read_limit(fields[3], &l->admin_limit)
-             || !read_limit(fields[5], &l->user_limit))
+    else if (!read_number(fields[1], &l->device_limit) || !read_number(fields[3], &l->admin_limit)
+             || !read_number(fields[5], &l->user_limit))
         l->wrong = "a limit is not a number";
 }
 

@@ -51,6 +51,10 @@ struct line {
 /* The next line of the input; false where there is none. */
 bool read_text(FILE *input, struct text *t);
 
+/* Two kinds of field: upper-case hex of up to LONGEST_HEX bytes, and 0 or decimal without leading zeros, up to 65,535. */
+bool read_hex(struct bytes f, struct hex *h);
+bool read_number(struct bytes f, uint16_t *number);
+
 /* What a line says. PINs point into the text. */
 void read_line(const struct text *t, struct line *l);
 

@@ -7,35 +7,56 @@
 #include "card.h"
 #include "say.h"
 #include "script.h"
+#include "store.h"
 #include "vpcd.h"
 
 enum { BAD_USAGE = 2 };
 
+const char said_by[] = "limpet-reader";
+
 static const char usage[] =
     "usage: reader/run [OPTION]... FILE\n"
     "       reader/run [OPTION]... KEY LIMIT ADMIN-PIN LIMIT USER-PIN LIMIT\n"
+    "       reader/run [OPTION]... --card CARD\n"
     "\n"
     "Puts a card into vpcd, the virtual reader of Debian's package vsmartcard-vpcd.\n"
     "pcscd has to be running with its driver. The card is in the reader until this\n"
-    "program ends; it lives in memory alone and is gone then.\n"
+    "program ends. Without --card it lives in memory alone and is gone then.\n"
     "\n"
     "FILE is a script: an ISSUE line and, where wanted, CMD and RESET lines that\n"
     "prepare the card (./limpet --help has their form). Or the six values of an\n"
     "ISSUE line are given as words: the key as upper-case hex, each limit 1 to 128.\n"
     "Others on the same machine can see words, and not what is in a file.\n"
     "\n"
+    "  --card CARD       the card is kept in the file CARD, as described below\n"
     "  --prepare SCRIPT  run the CMD and RESET lines of SCRIPT on the issued card\n"
     "  --port PORT       where vpcd waits for a card (35963)\n"
     "  --verbose         print what the card is told and what it answers, PINs too\n"
     "  --help            print this\n"
     "\n"
+    "With --card the card that is in CARD is put into the reader, and FILE, the six\n"
+    "values and --prepare are not looked at. They are for the first time: where there\n"
+    "is no file CARD yet, they make the card, and CARD is made with it. tools/card\n"
+    "makes and shows such files too; docs/CARD-FILE.md says what is in them.\n"
+    "\n"
+    "What a command changes for good, such as tries, PINs and files, is in CARD before\n"
+    "its answer goes out, so nothing that was answered is lost, however this program\n"
+    "ends. Where it cannot be stored the command is answered 6F00 and the card stays\n"
+    "as it was; this terminal says why. The session is not stored: putting a card in is\n"
+    "a reset, so rights held, current file and challenge are gone at the start. While\n"
+    "the card is in the reader no other program can change CARD.\n"
+    "\n"
     "Status: 0 when the reader was closed, 1 for an error, 2 for bad usage.\n"
     "\n"
-    "  reader/run examples/standby.script    the card of examples/standby.md\n";
+    "  reader/run examples/standby.script    the card of examples/standby.md\n"
+    "  reader/run --card box.card examples/box.script\n"
+    "                                        made the first time, and then kept\n";
 
 struct arguments {
-    const char *prepare;
+    const char *prepare, *card;
     uint16_t port;
+    int words; /* a script's name, the six values, or none */
+    char **word;
 };
 
 static int bad_usage(void)
@@ -59,13 +80,15 @@ static int read_options(int argc, char **argv, struct arguments *a)
 {
     static const struct option options[] = {
         { "prepare", required_argument, NULL, 's' }, { "port", required_argument, NULL, 'p' },
-        { "verbose", no_argument, NULL, 'v' },       { "help", no_argument, NULL, 'h' },
-        { NULL, 0, NULL, 0 },
+        { "card", required_argument, NULL, 'c' },    { "verbose", no_argument, NULL, 'v' },
+        { "help", no_argument, NULL, 'h' },          { NULL, 0, NULL, 0 },
     };
     int option;
     while ((option = getopt_long(argc, argv, "h", options, NULL)) >= 0) {
         if (option == 's') {
             a->prepare = optarg;
+        } else if (option == 'c') {
+            a->card = optarg;
         } else if (option == 'v') {
             verbose = true;
         } else if (option == 'h') {
@@ -78,10 +101,12 @@ static int read_options(int argc, char **argv, struct arguments *a)
             return bad_usage();
         }
     }
-    return argc - optind == 1 || argc - optind == ISSUE_FIELDS ? -1 : bad_usage();
+    a->words = argc - optind;
+    a->word = argv + optind;
+    return a->words == 1 || a->words == ISSUE_FIELDS || (a->words == 0 && a->card != NULL) ? -1 : bad_usage();
 }
 
-/* Putting a card in is a reset: what the preparation showed it is forgotten. */
+/* Putting a card in is a reset: what the preparation showed it, and a session that its file has, is forgotten. */
 static bool put_in(void)
 {
     uint8_t outcome = card_reset();
@@ -90,34 +115,70 @@ static bool put_in(void)
     return outcome == LIMPET_OK;
 }
 
-static bool make_card(int words, char **word, const char *prepare)
+static bool make_card(const struct arguments *a)
 {
-    if (!card_fits()) {
-        say("the library and include/limpetnook.h are of different versions");
+    return (a->words == 1 ? run_script(a->word[0], true) : issue_words(a->word))
+        && (a->prepare == NULL || run_script(a->prepare, false))
+        && put_in();
+}
+
+static bool take_card(const struct arguments *a, enum found found, const struct store *kept)
+{
+    if (found == NONE && a->words == 0) {
+        say("there is no file %s, and nothing that says which card to make", a->card);
         return false;
     }
-    return (words == 1 ? run_script(word[0], true) : issue_words(word))
-        && (prepare == NULL || run_script(prepare, false))
-        && put_in();
+    if (found == NONE)
+        return make_card(a);
+    if (a->words > 0 || a->prepare != NULL)
+        say("%s is there, so its card is put in and no other is made", a->card);
+    return store_load(kept) && put_in();
+}
+
+/* kept: NULL where the card is not kept in a file. */
+static int serve(uint16_t port, struct store *kept)
+{
+    int connection = vpcd_connect(port);
+    bool good;
+
+    if (connection < 0)
+        return EXIT_FAILURE;
+    say("the card is in the reader on port %u", (unsigned)port);
+    good = vpcd_serve(connection, kept);
+    if (good)
+        say("the reader was closed");
+    close(connection);
+    return good ? EXIT_SUCCESS : EXIT_FAILURE;
+}
+
+/* Stored before the first command too, so that a file that cannot be is noticed at once. */
+static int serve_kept(const struct arguments *a)
+{
+    struct store kept;
+    enum found found = store_open(&kept, a->card, TO_CHANGE);
+    int status = EXIT_FAILURE;
+
+    if (found == CANNOT_OPEN)
+        return EXIT_FAILURE;
+    if (take_card(a, found, &kept) && store_card(&kept, WHOLE_CARD) != NOT_STORED)
+        status = serve(a->port, &kept);
+    store_close(&kept);
+    return status;
 }
 
 int main(int argc, char **argv)
 {
     struct arguments a = { .port = VPCD_PORT };
-    int connection, status = read_options(argc, argv, &a);
-    bool good;
+    int status = read_options(argc, argv, &a);
 
     if (status >= 0)
         return status;
-    if (!make_card(argc - optind, argv + optind, a.prepare))
-        return EXIT_FAILURE;
-    connection = vpcd_connect(a.port);
-    if (connection < 0)
-        return EXIT_FAILURE;
-    say("the card is in the reader on port %u", (unsigned)a.port);
-    good = vpcd_serve(connection);
-    if (good)
-        say("the reader was closed");
-    close(connection);
-    return good ? EXIT_SUCCESS : EXIT_FAILURE;
+    if (!card_fits())
+        status = EXIT_FAILURE;
+    else if (a.card != NULL)
+        status = serve_kept(&a);
+    else
+        status = make_card(&a) ? serve(a.port, NULL) : EXIT_FAILURE;
+    card_wipe();
+    return status;
 }

@@ -9,7 +9,7 @@ void say(const char *format, ...)
 {
     va_list rest;
     va_start(rest, format);
-    fputs("limpet-reader: ", stderr);
+    fprintf(stderr, "%s: ", said_by);
     vfprintf(stderr, format, rest);
     fputc('\n', stderr);
     va_end(rest);

@@ -8,6 +8,9 @@
 
 extern bool verbose;
 
+/* Stands before what is said; each program has its own. */
+extern const char said_by[];
+
 void say(const char *format, ...) __attribute__((format(printf, 1, 2)));
 
 /* With --verbose only: what went to the card and came back. */

@@ -40,59 +40,89 @@ bool issue_words(char *const words[ISSUE_FIELDS])
         fields[i] = (struct bytes){ (const uint8_t *)words[i], strlen(words[i]) };
     read_issue(fields, &l);
     wrong = run_issue(&l);
+    wipe(&l, sizeof l);
     if (wrong != NULL)
         say("no card: %s", wrong);
     return wrong == NULL;
 }
 
 /* issue_due: the line has to be the ISSUE. */
-static const char *run_line(const struct text *t, bool issue_due)
+static const char *run_line(const struct text *t, struct line *l, bool issue_due)
 {
-    struct line l;
-
-    read_line(t, &l);
-    if (l.kind == ISSUE_LINE)
-        return issue_due ? run_issue(&l) : "a card has been issued already";
+    read_line(t, l);
+    if (l->kind == ISSUE_LINE)
+        return issue_due ? run_issue(l) : "a card has been issued already";
     if (issue_due && t->len <= LONGEST_LINE)
         return "the first line is to be an ISSUE: key, limit, admin PIN, limit, user PIN, limit, parted by tabs";
-    if (l.wrong != NULL)
-        return l.wrong;
-    return l.kind == CMD_LINE ? run_command(&l) : why_not(card_reset());
+    if (l->wrong != NULL)
+        return l->wrong;
+    return l->kind == CMD_LINE ? run_command(l) : why_not(card_reset());
 }
 
-static bool run_lines(FILE *file, const char *path, bool issues)
+static bool run_lines(FILE *file, const char *name, bool issues)
 {
     struct text t;
+    struct line l;
+    const char *wrong = NULL;
     size_t number = 0;
 
-    while (read_text(file, &t)) {
-        const char *wrong = run_line(&t, issues && number == 0);
+    while (wrong == NULL && read_text(file, &t)) {
+        wrong = run_line(&t, &l, issues && number == 0);
         number++;
-        if (wrong != NULL) {
-            say("%s: line %zu: %s", path, number, wrong);
-            return false;
-        }
+    }
+    wipe(&t, sizeof t);
+    wipe(&l, sizeof l);
+    if (wrong != NULL) {
+        say("%s: line %zu: %s", name, number, wrong);
+        return false;
     }
     if (ferror(file)) {
-        say("cannot read %s: %s", path, strerror(errno));
+        say("cannot read %s: %s", name, strerror(errno));
         return false;
     }
     if (issues && number == 0) {
-        say("%s: no ISSUE line", path);
+        say("%s: no ISSUE line", name);
         return false;
     }
     return true;
 }
 
+static bool is_standard_input(const char *path)
+{
+    return strcmp(path, "-") == 0;
+}
+
+const char *script_name(const char *path)
+{
+    return is_standard_input(path) ? "standard input" : path;
+}
+
+FILE *open_script(const char *path, struct script_room *room)
+{
+    FILE *file = is_standard_input(path) ? stdin : fopen(path, "r");
+
+    if (file == NULL)
+        say("cannot read %s: %s", path, strerror(errno));
+    else
+        setvbuf(file, room->at, _IOFBF, sizeof room->at);
+    return file;
+}
+
+void close_script(FILE *file, struct script_room *room)
+{
+    fclose(file);
+    wipe(room, sizeof *room);
+}
+
 bool run_script(const char *path, bool issues)
 {
-    FILE *file = fopen(path, "r");
+    struct script_room room;
+    FILE *file = open_script(path, &room);
     bool good;
-    if (file == NULL) {
-        say("cannot read %s: %s", path, strerror(errno));
+
+    if (file == NULL)
         return false;
-    }
-    good = run_lines(file, path, issues);
-    fclose(file);
+    good = run_lines(file, script_name(path), issues);
+    close_script(file, &room);
     return good;
 }

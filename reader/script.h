@@ -3,14 +3,27 @@
 #define READER_SCRIPT_H
 
 #include <stdbool.h>
+#include <stdio.h>
 
 #include "lines.h"
+
+/* Where a script's bytes stand while it is read, so that they can be wiped. */
+struct script_room {
+    char at[BUFSIZ];
+};
+
+/* The script at path, or standard input for "-"; NULL where it cannot be read, which is said. The room lasts until it is closed. */
+FILE *open_script(const char *path, struct script_room *room);
+void close_script(FILE *file, struct script_room *room);
+
+/* What a person calls it. */
+const char *script_name(const char *path);
 
 /* Issues the card with values that are written as on an ISSUE line. Says why where it cannot. */
 bool issue_words(char *const words[ISSUE_FIELDS]);
 
 /*
- * Runs the script at path. With issues, its first line and no other is an ISSUE; without, none is.
+ * Runs the script at path, or standard input for "-". With issues, its first line and no other is an ISSUE; without, none is.
  * A status word that refuses is the script's own matter; a line that is not served ends it. Says which and why.
  */
 bool run_script(const char *path, bool issues);

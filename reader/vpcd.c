@@ -131,18 +131,35 @@ static bool fresh(uint8_t random[LIMPET_RANDOM_SIZE])
     return false;
 }
 
-/* The card's answer to a command. 6F00 only where it could not be asked, which good buffers rule out. */
-static size_t ask(struct bytes command, uint8_t reply[LIMPET_REPLY_SIZE])
+/*
+ * Gives the card the command. Where what it did cannot be kept, it was not done. A command that only reads changes nothing that
+ * lasts and is not stored, and neither is a reset.
+ */
+static bool serve_command(struct bytes command, struct bytes random, uint8_t *reply, size_t *count, struct store *kept)
 {
-    uint8_t random[LIMPET_RANDOM_SIZE], outcome;
+    struct card_copy before;
+    uint8_t outcome;
+    bool good;
+
+    card_save(&before);
+    outcome = card_command(command, random, reply, count);
+    good = outcome == LIMPET_OK && (kept == NULL || store_card(kept, WHAT_LASTS) != NOT_STORED);
+    if (outcome != LIMPET_OK)
+        say("command not served, outcome %u: %s", (unsigned)outcome, outcome_says(outcome));
+    else if (!good)
+        card_put_back(&before);
+    wipe(&before, sizeof before);
+    return good;
+}
+
+/* The card's answer to a command. 6F00 only where it could not be asked, which good buffers rule out, or not be kept. */
+static size_t ask(struct bytes command, uint8_t reply[LIMPET_REPLY_SIZE], struct store *kept)
+{
+    uint8_t random[LIMPET_RANDOM_SIZE];
     size_t count;
 
-    if (fresh(random)) {
-        outcome = card_command(command, (struct bytes){ random, sizeof random }, reply, &count);
-        if (outcome == LIMPET_OK)
-            return count;
-        say("command not served, outcome %u: %s", (unsigned)outcome, outcome_says(outcome));
-    }
+    if (fresh(random) && serve_command(command, (struct bytes){ random, sizeof random }, reply, &count, kept))
+        return count;
     reply[0] = 0x6F;
     reply[1] = 0x00;
     return 2;
@@ -157,7 +174,7 @@ static void reset(const char *event)
 }
 
 /* Serves one message. Whether the connection still stands. */
-static bool serve(int s, struct bytes message)
+static bool serve(int s, struct bytes message, struct store *kept)
 {
     uint8_t reply[LIMPET_REPLY_SIZE];
     size_t count;
@@ -175,20 +192,20 @@ static bool serve(int s, struct bytes message)
     case GET_ATR:
         return answer(s, atr, sizeof atr);
     default:
-        count = ask(message, reply);
+        count = ask(message, reply, kept);
         say_exchange(message, (struct bytes){ reply, count });
         return answer(s, reply, count);
     }
 }
 
-bool vpcd_serve(int s)
+bool vpcd_serve(int s, struct store *kept)
 {
     static uint8_t body[BODY_MAX];
     size_t len;
     int got;
 
     while ((got = receive(s, body, &len)) == 1)
-        if (!serve(s, (struct bytes){ body, len }))
+        if (!serve(s, (struct bytes){ body, len }, kept))
             return false;
     return got == 0;
 }

@@ -5,12 +5,17 @@
 #include <stdbool.h>
 #include <stdint.h>
 
+#include "store.h"
+
 #define VPCD_PORT 35963 /* where vpcd waits for a card unless it is told otherwise */
 
 /* Connects to 127.0.0.1. Returns the socket, or -1 and says why. */
 int vpcd_connect(uint16_t port);
 
-/* Serves until vpcd closes the connection, which is a good end, or the connection breaks. */
-bool vpcd_serve(int connection);
+/*
+ * Serves until vpcd closes the connection, which is a good end, or the connection breaks. Where the card is kept in a file, what a
+ * command changed for good is in it before the answer goes out; kept: NULL where it is not.
+ */
+bool vpcd_serve(int connection, struct store *kept);
 
 #endif

@@ -1,6 +1,6 @@
 /*
  * Faults put between a program and the library, to show that the program
- * notices them. Linked with --wrap for the three calls on a card; FAULT in the
+ * notices them. Linked with --wrap for the calls on a card; FAULT in the
  * environment names the one fault that is made, and with none all is as it was.
  */
 #include <stdbool.h>
@@ -28,12 +28,26 @@ uint8_t __wrap_limpet_command(struct limpet_card *card, uint8_t *area, size_t ar
                               uint8_t *reply, size_t reply_len, size_t *reply_count);
 uint8_t __real_limpet_reset(struct limpet_card *card, const uint8_t *area, size_t area_len);
 uint8_t __wrap_limpet_reset(struct limpet_card *card, const uint8_t *area, size_t area_len);
+uint8_t __real_limpet_to_text(const struct limpet_card *card, const uint8_t *area, size_t area_len,
+                              uint8_t *text, size_t text_len, size_t *text_count);
+uint8_t __wrap_limpet_to_text(const struct limpet_card *card, const uint8_t *area, size_t area_len,
+                              uint8_t *text, size_t text_len, size_t *text_count);
+uint8_t __real_limpet_from_text(struct limpet_card *card, uint8_t *area, size_t area_len,
+                                const uint8_t *text, size_t text_len);
+uint8_t __wrap_limpet_from_text(struct limpet_card *card, uint8_t *area, size_t area_len,
+                                const uint8_t *text, size_t text_len);
 
 static bool has_fault(const char *name)
 {
     const char *fault = getenv("FAULT");
 
     return fault != NULL && strcmp(fault, name) == 0;
+}
+
+/* A fault of the calls that write and read a card as lines: only the program texts makes them. */
+static bool has_text_fault(const char *name)
+{
+    return has_fault(name);
 }
 
 static bool is_odd(const struct limpet_card *card)
@@ -185,5 +199,236 @@ uint8_t __wrap_limpet_reset(struct limpet_card *card, const uint8_t *area, size_
         return LIMPET_UNSOUND;
     if (has_fault("reset-lengths-not-looked-at") && outcome == LIMPET_UNSOUND && lengths_alone_are_bad(card, area))
         return LIMPET_OK;
+    return outcome;
+}
+
+/* As where a writer takes lower-case digits. */
+static void lower_first_letter(uint8_t *text, size_t count)
+{
+    for (size_t i = 0; i < count; i++)
+        if ('A' <= text[i] && text[i] <= 'F') {
+            text[i] = (uint8_t)(text[i] + ('a' - 'A'));
+            return;
+        }
+}
+
+/* As where a writer has admin and user PIN in the other order: the lines behind the first. */
+static void swap_pins(uint8_t *text, size_t count)
+{
+    uint8_t *line[3], *end = text + count;
+    uint8_t second[LIMPET_TEXT_SIZE];
+
+    line[0] = (uint8_t *)memchr(text, '\n', count) + 1;
+    for (int i = 1; i < 3; i++)
+        line[i] = (uint8_t *)memchr(line[i - 1], '\n', (size_t)(end - line[i - 1])) + 1;
+    size_t first_length = (size_t)(line[1] - line[0]), second_length = (size_t)(line[2] - line[1]);
+    memcpy(second, line[1], second_length);
+    memmove(line[0] + second_length, line[0], first_length);
+    memcpy(line[0], second, second_length);
+}
+
+uint8_t __wrap_limpet_to_text(const struct limpet_card *card, const uint8_t *area, size_t area_len,
+                              uint8_t *text, size_t text_len, size_t *text_count)
+{
+    uint8_t outcome = __real_limpet_to_text(card, area, area_len, text, text_len, text_count);
+    bool served = outcome == LIMPET_OK;
+
+    if (has_text_fault("text-past-its-end"))
+        flip(text, (ptrdiff_t)text_len);
+    if (has_text_fault("text-past-the-count") && served && *text_count < text_len)
+        flip(text, (ptrdiff_t)*text_count);
+    if (has_text_fault("text-last-byte-of-the-buffer") && served && *text_count < text_len)
+        flip(text, (ptrdiff_t)text_len - 1);
+    if (has_text_fault("text-on-refusal") && !served && text_len > 0)
+        flip(text, 0);
+    if (has_text_fault("text-on-short-buffer") && outcome == LIMPET_SHORT_TEXT && text_len > 1000)
+        flip(text, 1000);
+    if (has_text_fault("text-count-on-refusal") && !served)
+        *text_count = 1;
+    if (has_text_fault("text-count-kept-on-unsound") && outcome == LIMPET_UNSOUND)
+        *text_count = text_len;
+    if (has_text_fault("text-count-past-its-end"))
+        flip(text_count, sizeof *text_count);
+    if (has_text_fault("text-count-one-less") && served)
+        *text_count -= 1;
+    if (has_text_fault("text-writes-the-card") && served)
+        flip(card, LIMPET_CARD_SIZE - 1);
+    if (has_text_fault("text-writes-the-area") && area_len > 0)
+        flip(area, (ptrdiff_t)area_len - 1);
+    if (has_text_fault("text-lower-case") && served)
+        lower_first_letter(text, *text_count);
+    if (has_text_fault("text-pins-swapped") && served)
+        swap_pins(text, *text_count);
+    if (has_text_fault("text-just-fits-refused") && served && *text_count == text_len)
+        return LIMPET_SHORT_TEXT;
+    if (has_text_fault("text-short-before-unsound") && outcome == LIMPET_UNSOUND && text_len == 0)
+        return LIMPET_SHORT_TEXT;
+    if (has_text_fault("text-short-before-area") && outcome == LIMPET_BAD_AREA && text_len == 0)
+        return LIMPET_SHORT_TEXT;
+    if (has_text_fault("text-unsound-before-area") && outcome == LIMPET_BAD_AREA && is_blank(card))
+        return LIMPET_UNSOUND;
+    if (has_text_fault("text-of-an-unsound-card") && outcome == LIMPET_UNSOUND)
+        return LIMPET_OK;
+    return outcome;
+}
+
+enum { LONGEST_TEXT = 65536 };
+
+/* A text that a reader might take for another one: where the first is refused the second is read in its place. */
+struct lenient {
+    uint8_t bytes[LONGEST_TEXT + 1];
+    size_t length;
+};
+
+static void upper_case(struct lenient *t)
+{
+    for (size_t i = 0; i < t->length; i++)
+        if ('a' <= t->bytes[i] && t->bytes[i] <= 'f')
+            t->bytes[i] = (uint8_t)(t->bytes[i] - ('a' - 'A'));
+}
+
+/* Without those bytes that stand before one of these. */
+static void drop_before(struct lenient *t, char dropped, const char *next)
+{
+    size_t kept = 0;
+
+    for (size_t i = 0; i < t->length; i++)
+        if (t->bytes[i] != dropped || i + 1 == t->length || t->bytes[i + 1] == 0 || strchr(next, t->bytes[i + 1]) == NULL)
+            t->bytes[kept++] = t->bytes[i];
+    t->length = kept;
+}
+
+static void add_newline(struct lenient *t)
+{
+    t->bytes[t->length++] = '\n';
+}
+
+static void drop_last(struct lenient *t)
+{
+    if (t->length > 0)
+        t->length--;
+}
+
+static void drop_zeros(struct lenient *t)
+{
+    size_t kept = 0;
+
+    for (size_t i = 0; i < t->length; i++) {
+        bool leads = t->bytes[i] == '0' && i > 0 && t->bytes[i - 1] == '\t';
+        if (!leads || i + 1 == t->length || t->bytes[i + 1] < '0' || t->bytes[i + 1] > '9')
+            t->bytes[kept++] = t->bytes[i];
+    }
+    t->length = kept;
+}
+
+/* As where a limit of 129 is good: it is read as 128, and so are tries. */
+static void lower_129(struct lenient *t)
+{
+    for (size_t i = 0; i + 4 < t->length; i++)
+        if (memcmp(t->bytes + i, "\t129", 4) == 0)
+            t->bytes[i + 3] = '8';
+}
+
+/* As where a reader stops at the first byte 00. */
+static void cut_at_zero(struct lenient *t)
+{
+    uint8_t *zero = memchr(t->bytes, 0, t->length);
+
+    if (zero != NULL)
+        t->length = (size_t)(zero - t->bytes);
+}
+
+static void be_lenient(struct lenient *t)
+{
+    if (has_text_fault("reader-takes-lower-case"))
+        upper_case(t);
+    if (has_text_fault("reader-takes-cr"))
+        drop_before(t, '\r', "\n");
+    if (has_text_fault("reader-takes-trailing-blanks"))
+        drop_before(t, ' ', "\t\n");
+    if (has_text_fault("reader-takes-trailing-tabs"))
+        drop_before(t, '\t', "\n");
+    if (has_text_fault("reader-takes-plus-signs"))
+        drop_before(t, '+', "0123456789");
+    if (has_text_fault("reader-takes-empty-lines"))
+        drop_before(t, '\n', "\n");
+    if (has_text_fault("reader-takes-no-last-newline"))
+        add_newline(t);
+    if (has_text_fault("reader-takes-a-byte-more"))
+        drop_last(t);
+    if (has_text_fault("reader-takes-leading-zeros"))
+        drop_zeros(t);
+    if (has_text_fault("reader-takes-limit-129"))
+        lower_129(t);
+    if (has_text_fault("reader-stops-at-zero"))
+        cut_at_zero(t);
+}
+
+/* As where a reader leaves what was in the area past the last file. */
+static void leave_rest(const struct limpet_card *card, uint8_t *area, const uint8_t *before)
+{
+    struct layout c;
+    unsigned taken = 0;
+
+    memcpy(&c, card, sizeof c);
+    for (size_t i = 0; i < c.directory.count; i++)
+        taken += file_size(&c.directory.files[i]);
+    memcpy(area + taken, before + taken, LIMPET_AREA_SIZE - taken);
+}
+
+/* As where a reader takes a session for one that ended. */
+static void forget(struct limpet_card *card, size_t from, size_t length)
+{
+    memset((uint8_t *)card + from, 0, length);
+}
+
+uint8_t __wrap_limpet_from_text(struct limpet_card *card, uint8_t *area, size_t area_len,
+                                const uint8_t *text, size_t text_len)
+{
+    static uint8_t before[LIMPET_AREA_SIZE];
+    static struct lenient other;
+
+    if (area_len == LIMPET_AREA_SIZE)
+        memcpy(before, area, sizeof before);
+    uint8_t outcome = __real_limpet_from_text(card, area, area_len, text, text_len);
+
+    if (outcome == LIMPET_BAD_TEXT && getenv("FAULT") != NULL && text_len <= LONGEST_TEXT && text_len > 0) {
+        memcpy(other.bytes, text, text_len);
+        other.length = text_len;
+        be_lenient(&other);
+        outcome = __real_limpet_from_text(card, area, area_len, other.bytes, other.length);
+    }
+    bool served = outcome == LIMPET_OK;
+
+    if (has_text_fault("reader-leaves-a-card") && !served)
+        flip(card, 0);
+    if (has_text_fault("reader-leaves-a-card-on-bad-area") && outcome == LIMPET_BAD_AREA)
+        flip(card, LIMPET_CARD_SIZE - 1);
+    if (has_text_fault("reader-clears-on-refusal") && !served && area_len > 0)
+        memset(area, 0, area_len);
+    if (has_text_fault("reader-writes-on-refusal") && outcome == LIMPET_BAD_TEXT)
+        flip(area, LIMPET_AREA_SIZE - 1);
+    if (has_text_fault("reader-leaves-a-byte") && served)
+        flip(area, LIMPET_AREA_SIZE - 1);
+    if (has_text_fault("reader-leaves-the-rest") && served)
+        leave_rest(card, area, before);
+    if (has_text_fault("reader-forgets-the-challenge") && served)
+        forget(card, offsetof(struct layout, session.challenge), CHALLENGE_ROOM + 1);
+    if (has_text_fault("reader-forgets-the-current-file") && served)
+        forget(card, offsetof(struct layout, session.current), 1);
+    if (has_text_fault("reader-forgets-the-rights") && served)
+        forget(card, offsetof(struct layout, session.rights), CREDENTIALS);
+    if (has_text_fault("reader-writes-the-text") && text_len > 0)
+        flip(text, (ptrdiff_t)text_len - 1);
+    if (has_text_fault("reader-writes-past-the-card"))
+        flip(card, LIMPET_CARD_SIZE);
+    if (has_text_fault("reader-writes-past-the-area"))
+        flip(area, (ptrdiff_t)area_len);
+    if (has_text_fault("reader-reads-past-the-text") && text_len > 0)
+        (void)*(volatile const uint8_t *)(text + text_len);
+    if (has_text_fault("reader-refuses-odd-addresses") && is_odd(card))
+        return LIMPET_BAD_TEXT;
+    if (has_text_fault("reader-text-before-area") && outcome == LIMPET_BAD_AREA && text_len == 0)
+        return LIMPET_BAD_TEXT;
     return outcome;
 }

@@ -15,7 +15,7 @@ int main(void)
     const uint8_t pin[] = { '1', '2', '3', '4', '5', '6' };
     const uint8_t random_input[LIMPET_RANDOM_SIZE] = { 0 };
     const uint8_t query[] = { 0x00, 0x20, 0x00, 0x01 };
-    uint8_t reply[LIMPET_REPLY_SIZE];
+    uint8_t reply[LIMPET_REPLY_SIZE], text[LIMPET_TEXT_SIZE];
     size_t count = 0;
 
     if (limpet_version() != LIMPET_VERSION || limpet_card_size() != LIMPET_CARD_SIZE)
@@ -29,5 +29,13 @@ int main(void)
         return 4;
     if (count != 2 || reply[0] != 0x63 || reply[1] != 0xC3)
         return 5;
-    return limpet_reset(card, area, sizeof area) == LIMPET_OK ? 0 : 6;
+    if (limpet_to_text(card, area, sizeof area, text, 1, &count) != LIMPET_SHORT_TEXT || count != 0)
+        return 6;
+    if (limpet_to_text(card, area, sizeof area, text, sizeof text, &count) != LIMPET_OK)
+        return 7;
+    if (limpet_from_text(card, area, sizeof area, text, count - 1) != LIMPET_BAD_TEXT)
+        return 8;
+    if (limpet_from_text(card, area, sizeof area, text, count) != LIMPET_OK)
+        return 9;
+    return limpet_reset(card, area, sizeof area) == LIMPET_OK ? 0 : 10;
 }

@@ -23,8 +23,9 @@ static void usage(FILE *to)
 {
     fputs("usage: stack <SCRIPT\n"
           "\n"
-          "Plays the calls of a script and prints the most bytes of stack that an issue, a\n"
-          "command and a reset took, and those of limpet_aes128.\n", to);
+          "Plays the calls of a script, and writes and reads the card as a text after each\n"
+          "line. Prints the most bytes of stack that each kind of call took, and those of\n"
+          "limpet_aes128.\n", to);
 }
 
 static void play_apart(void)
@@ -38,6 +39,21 @@ static void encipher_apart(void)
     static uint8_t out[LIMPET_AES128_SIZE];
 
     limpet_aes128(zeros, sizeof zeros, zeros, sizeof zeros, out, sizeof out);
+}
+
+static uint8_t text[LIMPET_TEXT_SIZE];
+static size_t text_count;
+
+static void write_apart(void)
+{
+    limpet_to_text((const struct limpet_card *)player.card, player.area, sizeof player.area, text, sizeof text, &text_count);
+}
+
+static void read_apart(void)
+{
+    static uint8_t card[LIMPET_CARD_SIZE], area[LIMPET_AREA_SIZE];
+
+    limpet_from_text((struct limpet_card *)card, area, sizeof area, text, text_count);
 }
 
 /* The stack grows down, so the first byte that changed is the deepest. */
@@ -59,6 +75,12 @@ static size_t stack_of(void (*does)(void))
     return sizeof stack - untouched;
 }
 
+static void raise_to(size_t *most, size_t taken)
+{
+    if (taken > *most)
+        *most = taken;
+}
+
 static size_t stack_of_line(const struct line *l)
 {
     playing = l;
@@ -69,7 +91,7 @@ int main(int count, char **arguments)
 {
     static const struct line no_call = { .wrong = "no call" };
     static const char *const names[] = { [ISSUE_LINE] = "issue", [CMD_LINE] = "command", [RESET_LINE] = "reset" };
-    size_t lines, most[] = { [ISSUE_LINE] = 0, [CMD_LINE] = 0, [RESET_LINE] = 0 };
+    size_t lines, most[] = { [ISSUE_LINE] = 0, [CMD_LINE] = 0, [RESET_LINE] = 0 }, most_written = 0, most_read = 0;
 
     if (count != 1) {
         usage(count == 2 && strcmp(arguments[1], "--help") == 0 ? stdout : stderr);
@@ -78,13 +100,15 @@ int main(int count, char **arguments)
     size_t own = stack_of_line(&no_call);
     struct played *script = read_script(stdin, &lines);
     for (size_t i = 0; i < lines; i++) {
-        size_t taken = stack_of_line(&script[i].line) - own;
-        if (taken > most[script[i].line.kind])
-            most[script[i].line.kind] = taken;
+        raise_to(&most[script[i].line.kind], stack_of_line(&script[i].line) - own);
+        raise_to(&most_written, stack_of(write_apart));
+        raise_to(&most_read, stack_of(read_apart));
     }
     free(script);
     for (enum kind k = ISSUE_LINE; k <= RESET_LINE; k++)
         printf("%zu bytes of stack: %s\n", most[k], names[k]);
+    printf("%zu bytes of stack: to_text\n", most_written);
+    printf("%zu bytes of stack: from_text\n", most_read);
     printf("%zu bytes of stack: aes128\n", stack_of(encipher_apart));
     return EXIT_SUCCESS;
 }

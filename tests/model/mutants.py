@@ -1,9 +1,10 @@
-"""Checks that generated scripts notice errors: python3 tests/model/mutants.py
+"""Checks that generated scripts and texts notice errors: python3 tests/model/mutants.py
 
 Each entry changes one place of the model, as someone might misread the papers. The changed model then runs generated
 scripts; a test passes when its output differs from the true model's. So a program with that error would be caught by
 tests/model/compare.py within the lines printed at the end. Errors in calls that a script cannot make, or in bytes that it
-cannot see, are put before the self-test instead.
+cannot see, are put before the self-test instead. Errors in a card written as lines are put before the changed texts that
+tests/texts gives to the library, and before the self-test too.
 """
 
 import contextlib
@@ -11,14 +12,19 @@ import io
 import os
 import sys
 import types
+from functools import lru_cache
 
 import generate
 import script
+import selftest
+import text
+import text_cases
 
 SCRIPTS = 10
 LINES = 2000
+TEXTS = 10000
 
-CARD, SCRIPT, SELFTEST = "card.py", "script.py", "selftest.py"
+CARD, SCRIPT, TEXT, SELFTEST = "card.py", "script.py", "text.py", "selftest.py"
 
 MUTANTS = (
     # Errors that look right.
@@ -373,27 +379,219 @@ UNSHOWN = (
 )
 SELFTESTS = ("test_calls", "test_variable_soundness", "test_variable_space")
 
+# Errors in the lines of a card. Changed texts must notice them, and the self-test too.
+IN_LINES = (
+    # The form.
+    (TEXT, 'rb"0|[1-9][0-9]{0,3}"', 'rb"[0-9]{1,4}"', "leading zeros"),
+    (TEXT, 'rb"0|[1-9][0-9]{0,3}"', 'rb"[+]?(?:0|[1-9][0-9]{0,3})"', "a plus sign"),
+    (TEXT, 'rb"0|[1-9][0-9]{0,3}"', 'rb" ?(?:0|[1-9][0-9]{0,3}) ?"', "blanks around a number"),
+    (TEXT, 'rb"0|[1-9][0-9]{0,3}"', 'rb"[1-9][0-9]{0,3}"', "no number 0"),
+    (TEXT, 'rb"0|[1-9][0-9]{0,3}"', 'rb"0|[1-9][0-9]{0,1}"', "no numbers over 99"),
+    (TEXT, 'rb"0|[1-9][0-9]{0,3}"', 'rb"0|[1-9][0-9]{0,2}"', "no numbers over 999"),
+    (TEXT, "read_bytes(value), read_number(limit))", "read_bytes(value), read_number(limit) & 0xFF)", "limits cut to a byte"),
+    (TEXT, "    credential.tries = read_number(tries)\n", "    credential.tries = read_number(tries) & 0xFF\n", "tries cut to a byte"),
+    (TEXT, "        file.records = read_number(held)\n", "        file.records = read_number(held) & 0xFF\n", "held cut to a byte"),
+    (TEXT, "    file.newest = read_number(newest)\n", "    file.newest = read_number(newest) & 0xFF\n", "newest cut to a byte"),
+    (TEXT, "    if NUMBER.fullmatch(field) is None:\n        raise NotACard\n    return int(field)\n",
+     "    if not field.isdigit() or field[:1] == b'0' and field != b'0':\n        raise NotACard\n    return int(field) & 0xFFFFFFFF\n",
+     "numbers cut to four bytes"),
+    (TEXT, 'rb"(?:[0-9A-F]{2})+"', 'rb"(?:[0-9A-Fa-f]{2})+"', "lower-case hex"),
+    (TEXT, 'rb"(?:[0-9A-F]{2})+"', 'rb"(?:[0-9A-F]{2})*"', "an empty challenge for none"),
+    (TEXT, 'rb"(?:[0-9A-F]{2})+"', 'rb"(?:[0-9A-F]{2} ?)+"', "blanks between bytes"),
+    (TEXT, 'FLAGS = {b"0": False, b"1": True}', 'FLAGS = {b"0": False, b"1": True, b"00": False, b"01": True}', "rights of two digits"),
+    (TEXT, 'FLAGS = {b"0": False, b"1": True}', 'FLAGS = {b"0": False, b"1": True, b"-": False}', "- for a right that is not held"),
+    (TEXT, '        if rest != b"":\n            raise NotACard\n', '        if rest != b"":\n            lines.append(rest)\n',
+     "a last line without newline"),
+    (TEXT, '        if rest != b"":\n            raise NotACard\n', "", "anything behind the last newline"),
+    (TEXT, '        if rest != b"":\n            raise NotACard\n', '        if rest.strip() != b"":\n            raise NotACard\n',
+     "blanks behind the last newline"),
+    (TEXT, 'text.split(b"\\n")', 'text.replace(b"\\r\\n", b"\\n").split(b"\\n")', "CR before a newline"),
+    (TEXT, 'text.split(b"\\n")', 'text.partition(b"\\x00")[0].split(b"\\n")', "an end at the first byte 00"),
+    (TEXT, "        self.left = lines[::-1]\n", "        self.left = [line for line in lines[::-1] if line]\n", "empty lines"),
+    (TEXT, "        self.left = lines[::-1]\n", '        self.left = lines[::-1]\n        while self.left and self.left[0] == b"":\n'
+     "            self.left.pop(0)\n", "empty lines at the end"),
+    (TEXT, "        if len(fields) != count:\n            raise NotACard\n        return fields\n",
+     "        if len(fields) < count:\n            raise NotACard\n        return fields[:count]\n", "more fields than a line has"),
+    (TEXT, 'self.left.pop().split(b"\\t")', 'self.left.pop().rstrip(b"\\t").split(b"\\t")', "tabs at the end of a line"),
+    (TEXT, 'self.left.pop().split(b"\\t")', 'self.left.pop().strip(b" ").split(b"\\t")', "blanks at the ends of a line"),
+    (TEXT, 'self.left.pop().split(b"\\t")', 'self.left.pop().split()', "any blanks between fields"),
+    (TEXT, "BYTES_A_LINE = 32", "BYTES_A_LINE = 16", "16 bytes a line"),
+    (TEXT, "        contents += read_bytes(field, min(BYTES_A_LINE, size - len(contents)))\n",
+     "        contents += read_bytes(field)\n", "contents in lines of any length"),
+    (TEXT, "        contents += read_bytes(field, min(BYTES_A_LINE, size - len(contents)))\n",
+     "        contents += read_bytes(field)[:size - len(contents)]\n", "more contents than the file has"),
+    (TEXT, "min(BYTES_A_LINE, size - len(contents))", "BYTES_A_LINE", "a last line that is filled up"),
+    (TEXT, "hex_of(part)) for part in parts", 'hex_of(part.ljust(BYTES_A_LINE, b"\\x00"))) for part in parts', "a last line written full"),
+    (TEXT, 'b"\\t".join(fields) + b"\\n"', 'b" ".join(fields) + b"\\n"', "blanks written for tabs"),
+    (TEXT, 'b"\\t".join(fields) + b"\\n"', 'b"\\t".join(fields) + b"\\r\\n"', "CR written before newlines"),
+    (TEXT, '    return b"".join(text)\n', '    return b"".join(text)[:-1]\n', "no last newline written"),
+    (TEXT, "    return data.hex().upper().encode", "    return data.hex().encode", "lower-case hex written"),
+    # What stands in the fields.
+    (TEXT, "line(hex_of(credential.value), number", "line(credential.value, number", "PINs written as digits"),
+    (TEXT, "number(credential.limit), number(credential.tries))", "number(credential.tries), number(credential.limit))",
+     "tries written before the limit"),
+    (TEXT, "    value, limit, tries = lines.take(3)\n", "    value, tries, limit = lines.take(3)\n", "tries read before the limit"),
+    (TEXT, "    credential.tries = read_number(tries)\n", "    read_number(tries)\n", "all tries left"),
+    (TEXT, "for credential in (card.device, card.admin, card.user)]\n    current", "for credential in (card.admin, card.user, card.device)]\n"
+     "    current", "rights written in another order"),
+    (TEXT, "    card.device.held, card.admin.held, card.user.held = [", "    card.admin.held, card.user.held, card.device.held = [",
+     "rights read in another order"),
+    (TEXT, "    card.device.held, card.admin.held, card.user.held = [read_flag(right) for right in rights]\n",
+     "    [read_flag(right) for right in rights]\n", "rights dropped, as by a reset"),
+    (TEXT, "    card.device, card.admin, card.user = read_credential(lines), read_credential(lines), read_credential(lines)\n",
+     "    card.device, card.user, card.admin = read_credential(lines), read_credential(lines), read_credential(lines)\n",
+     "the user PIN read before the admin PIN"),
+    (TEXT, "        card.challenge = read_bytes(challenge)\n", "        read_bytes(challenge)\n", "no challenge kept"),
+    (TEXT, "        card.current = file_with(card, read_fid(current))\n", "        file_with(card, read_fid(current))\n",
+     "no current file kept"),
+    (TEXT, "        if file.fid == fid:\n", "        if file.fid & 0x1F == fid & 0x1F:\n", "a current file by its SFI"),
+    (TEXT, "            return file\n    raise NotACard\n", "            return file\n    return None\n",
+     "a current file that is not there for none"),
+    (TEXT, "    if current != NONE:\n", '    if current not in (NONE, b"3F00"):\n', "3F00 for no current file"),
+    (TEXT, "    if current != NONE:\n", '    if current not in (NONE, b"0000"):\n', "0000 for no current file"),
+    (TEXT, 'b"%04X" % card.current.fid', 'b"%02X" % card.current.sfi', "the SFI written for the current file"),
+    (TEXT, "        first, second = file.size >> 8, file.size & 0xFF\n", "        second, first = file.size >> 8, file.size & 0xFF\n",
+     "a size written with its low byte first"),
+    (TEXT, "size, count, length = first << 8 | second, 0, 0", "size, count, length = second << 8 | first, 0, 0",
+     "a size read with its low byte first"),
+    (TEXT, "    held = file.used if file.kind == cards.VARIABLE else file.records\n",
+     "    held = file.used if file.kind == cards.VARIABLE else file.count if file.kind == cards.FIXED else file.records\n",
+     "2A written with all its records held"),
+    (TEXT, "    held = file.used if file.kind == cards.VARIABLE else file.records\n", "    held = file.records\n",
+     "2C written with no used bytes"),
+    (TEXT, "    if kind == cards.VARIABLE:\n        file.used = read_number(held)\n    else:\n        file.records = read_number(held)\n",
+     "    file.records = read_number(held)\n    file.used = file.records if kind == cards.VARIABLE else 0\n",
+     "2C read with its used bytes as records held"),
+    (TEXT, "        file.records = read_number(held)\n", "        file.records = read_number(held) if kind == cards.CYCLIC else 0\n",
+     "any number held for 28 and 2A"),
+    (TEXT, "number(file.newest))", "number(file.newest + 1))", "newest written from 1"),
+    (TEXT, "    file.newest = read_number(newest)\n", "    file.newest = max(read_number(newest) - 1, 0)\n", "newest read from 1"),
+    (TEXT, "    file.newest = read_number(newest)\n", "    file.newest = read_number(newest) if kind == cards.CYCLIC else 0\n",
+     "any newest place for 28, 2A and 2C"),
+    (TEXT, "    file.newest = read_number(newest)\n", "    file.newest = read_number(newest) if file.records else 0\n",
+     "any newest place where none is held"),
+    (TEXT, "bytes(area[file.start:file.start + file.extent])", "bytes(area[file.start:file.start + (file.used or file.extent)])",
+     "only the used bytes of 2C written"),
+    (TEXT, "        file = read_file(lines, len(contents))\n        contents += read_contents(lines, file.extent)\n        card.files.append(file)\n",
+     "        if len(card.files) == 16:\n            break\n        file = read_file(lines, len(contents))\n"
+     "        contents += read_contents(lines, file.extent)\n        card.files.append(file)\n", "what follows the sixteenth file left out"),
+    (TEXT, 'contents.ljust(cards.AREA_SIZE, b"\\x00")', 'contents.ljust(cards.AREA_SIZE, b"\\xFF")', "FF past the last file"),
+    # Whether it is a sound card.
+    (TEXT, "    if not cards.is_sound(card, area):\n        raise NotACard\n", "", "no soundness"),
+    (CARD, "        if credential.held and credential.tries != credential.limit:\n            return False\n", "",
+     "a right held with tries missing"),
+    (CARD, "        if credential.held and credential.tries != credential.limit:\n",
+     "        if credential.held and credential.tries == 0:\n", "a right held with some tries left"),
+    (CARD, "or not 0 <= credential.tries <= credential.limit:", "or not 0 <= credential.tries <= 128:", "tries over the limit"),
+    (CARD, "return 1 <= limit <= 128", "return 1 <= limit <= 129", "limit 129"),
+    (CARD, "return 1 <= limit <= 128", "return 0 <= limit <= 128", "limit 0"),
+    (CARD, "return 1 <= limit <= 128", "return 1 <= limit < 128", "no limit 128"),
+    (CARD, "return 1 <= limit <= 128", "return 2 <= limit <= 128", "no limit 1"),
+    (CARD, "    if len(card.device.value) != 16 or not", "    if len(card.device.value) > 16 or not", "a short key"),
+    (CARD, "    if len(card.device.value) != 16 or not", "    if len(card.device.value) < 16 or not", "a long key"),
+    (CARD, "return 6 <= len(value) <= 16 and", "return 5 <= len(value) <= 16 and", "a PIN of 5"),
+    (CARD, "return 6 <= len(value) <= 16 and", "return 6 <= len(value) <= 17 and", "a PIN of 17"),
+    (CARD, "0x30 <= byte <= 0x39", "0x30 <= byte <= 0x3A", "3A as a digit"),
+    (CARD, "0x30 <= byte <= 0x39", "0x2F <= byte <= 0x39", "2F as a digit"),
+    (CARD, "    if len(card.files) > MOST_FILES:\n        return False\n", "", "a seventeenth file"),
+    (CARD, "    if len(card.files) > MOST_FILES:\n", "    if len(card.files) >= MOST_FILES:\n", "fifteen files"),
+    (CARD, "not 1 <= sfi <= 30 or sfi in sfis:", "not 1 <= sfi <= 30:", "SFIs twice"),
+    (CARD, "not 1 <= sfi <= 30 or sfi in sfis:", "not 0 <= sfi <= 30 or sfi in sfis:", "a sound SFI 0"),
+    (CARD, "not 1 <= sfi <= 30 or sfi in sfis:", "not 1 <= sfi <= 31 or sfi in sfis:", "a sound SFI 31"),
+    (CARD, "not 1 <= sfi <= 30 or sfi in sfis:", "not 1 <= sfi <= 29 or sfi in sfis:", "an SFI 30 that is not sound"),
+    (CARD, "        sfis.add(sfi)\n", "        sfis.add(file.fid)\n", "SFIs that may be the same where FIDs differ"),
+    (CARD, "        if is_bad_rights_byte(file.read) or is_bad_rights_byte(file.write):", "        if is_bad_rights_byte(file.read):",
+     "any write right"),
+    (CARD, "        if is_bad_rights_byte(file.read) or is_bad_rights_byte(file.write):", "        if is_bad_rights_byte(file.write):",
+     "any read right"),
+    (CARD, "return byte != NEVER and byte &", "return byte &", "0F as a bad byte"),
+    (CARD, "not 0 <= file.records <= file.count or", "not 0 <= file.records <= file.count + 1 or", "one held too many"),
+    (CARD, "not 0 <= file.records <= file.count or", "not 0 <= file.records < file.count or", "a file that is not full"),
+    (CARD, "not 0 <= file.newest < file.count:", "not 0 <= file.newest <= file.count:", "a newest place past the last"),
+    (CARD, "not 0 <= file.newest < file.count:", "not 0 <= file.newest < max(1, file.records):", "a newest place below those held"),
+    (CARD, "            if file.records == 0 and file.newest != 0:\n                return False\n", "", "a newest place where none is held"),
+    (CARD, "        elif file.records != 0 or file.newest != 0:\n            return False\n", "", "held and newest of 28, 2A and 2C"),
+    (CARD, "        elif file.records != 0 or file.newest != 0:\n", "        elif file.records != 0:\n", "a newest place of 28, 2A and 2C"),
+    (CARD, "if not 0 <= file.used <= (file.size if file.kind == VARIABLE else 0):", "if file.kind != VARIABLE and file.used != 0:",
+     "more used bytes than the space has"),
+    (CARD, "        if file.kind == VARIABLE and file.variable_records(area) is None:", "        if False:", "lengths of 2C not looked at"),
+    (CARD, "            if not 1 <= length <= LONGEST_RECORD:", "            if length > LONGEST_RECORD:", "a record of no bytes"),
+    (CARD, "            if not 1 <= length <= LONGEST_RECORD:", "            if not 1 <= length <= LONGEST_RECORD + 1:",
+     "a record of 179 bytes"),
+    (CARD, "            if not 1 <= length <= LONGEST_RECORD:", "            if not 1 <= length < LONGEST_RECORD:",
+     "no record of 178 bytes"),
+    (CARD, "return found if place == end else None", "return found", "a last record that ends in the free bytes"),
+    (CARD, "return found if place == end else None",
+     "return found if place == end and not any(area[end:self.start + self.size]) else None", "free bytes that must be 00"),
+    (CARD, "return 1 <= size <= 4096", "return 0 <= size <= 4096", "a file of no bytes"),
+    (CARD, "return 1 <= size <= 4096", "return 1 <= size <= 4095", "no file of 4,096 bytes"),
+    (CARD, "return 2 <= size <= 4096", "return 1 <= size <= 4096", "a space of 1"),
+    (CARD, "return 2 <= size <= 4096", "return 3 <= size <= 4096", "no space of 2"),
+    (CARD, "return 2 <= count <= 254 and", "return 1 <= count <= 254 and", "one record"),
+    (CARD, "return 2 <= count <= 254 and", "return 2 <= count <= 255 and", "255 records"),
+    (CARD, "254 and 1 <= length <= LONGEST_RECORD", "254 and 0 <= length <= LONGEST_RECORD", "records of no bytes"),
+    (CARD, "254 and 1 <= length <= LONGEST_RECORD", "254 and 1 <= length <= 179", "records of 179 bytes"),
+    (CARD, "return len(card.challenge) in (0, 4, 8, 16)", "return len(card.challenge) <= 16", "a challenge of any length up to 16"),
+    (CARD, "return len(card.challenge) in (0, 4, 8, 16)", "return len(card.challenge) in (0, 4, 8, 12, 16)", "a challenge of 12"),
+    (CARD, "return len(card.challenge) in (0, 4, 8, 16)", "return len(card.challenge) in (0, 4, 8)", "no challenge of 16"),
+)
+# Errors in the two calls, of which a text by itself says nothing. The self-test must notice them.
+IN_CALLS = (
+    (TEXT, "    if len(buffer) < len(text):\n", "    if len(buffer) <= len(text):\n", "a text that just fits refused"),
+    (TEXT, "    if len(buffer) < len(text):\n        return SHORT_TEXT, 0\n",
+     "    if len(buffer) < len(text):\n        buffer[:] = text[:len(buffer)]\n        return SHORT_TEXT, 0\n", "a part of the text written"),
+    (TEXT, "        return SHORT_TEXT, 0\n", "        return SHORT_TEXT, len(text)\n", "a count on a refusal"),
+    (TEXT, "    if not cards.is_sound(card, area):\n        return 4, 0\n", "", "the text of an unsound card"),
+    (TEXT, "    if len(area) != cards.AREA_SIZE:\n        return 2, 0\n    if not cards.is_sound(card, area):\n        return 4, 0\n",
+     "    if card.device.limit == 0:\n        return 4, 0\n    if len(area) != cards.AREA_SIZE:\n        return 2, 0\n"
+     "    if not cards.is_sound(card, area):\n        return 4, 0\n", "4 before 2"),
+    (TEXT, "    if len(area) != cards.AREA_SIZE:\n        return 2, 0\n",
+     "    if len(buffer) == 0:\n        return SHORT_TEXT, 0\n    if len(area) != cards.AREA_SIZE:\n        return 2, 0\n", "10 before all"),
+    (TEXT, "    buffer[:len(text)] = text\n", "    buffer[:] = text.ljust(len(buffer), b'\\x00')\n", "the rest of the buffer cleared"),
+    (TEXT, "    if len(area) != cards.AREA_SIZE:\n        return 2, cards.Card()\n    found = from_text(text)\n",
+     "    found = from_text(text)\n    if found is not None and len(area) != cards.AREA_SIZE:\n        return 2, cards.Card()\n",
+     "11 before 2"),
+    (TEXT, "        return BAD_TEXT, cards.Card()\n", "        area[:] = bytes(cards.AREA_SIZE)\n        return BAD_TEXT, cards.Card()\n",
+     "an area cleared on a refusal"),
+    (TEXT, "    card, area[:] = found\n",
+     "    card, contents = found\n    area[:sum(file.extent for file in card.files)] = contents.rstrip(b'\\x00')\n",
+     "bytes past the last file left as they were"),
+)
+TEXT_SELFTESTS = ("test_text_example", "test_text_fields", "test_text_lines", "test_text_sizes", "test_text_calls")
+
 # Errors with these words change nothing that a script can show, and must not be noticed. They stand in the list because
 # they name what only proofs, and not scripts, can hold the program to.
 CANNOT_SHOW = "no script can tell"
 
 
+@lru_cache(maxsize=None)
+def source_of(name):
+    with open(os.path.join(os.path.dirname(os.path.abspath(__file__)), name), encoding="utf-8") as source:
+        return source.read()
+
+
+@lru_cache(maxsize=None)
+def unchanged(name):
+    return compile(source_of(name), name, "exec")
+
+
+def changed(name, old, new):
+    source = source_of(name)
+    if source.count(old) != 1:
+        raise ValueError("%d places with %r" % (source.count(old), old))
+    return compile(source.replace(old, new), name, "exec")
+
+
 def mutated(file, old, new):
-    """Card, script program and self-test with one place of one source changed, by the names of their sources."""
-    here = os.path.dirname(os.path.abspath(__file__))
+    """Card, its lines, script program and self-test with one place of one source changed, by the names of their sources."""
     modules = {}
-    true_modules = {name: sys.modules[name] for name in ("card", "script")}
-    for name in (CARD, SCRIPT, SELFTEST):
-        with open(os.path.join(here, name), encoding="utf-8") as source:
-            text = source.read()
-        if name == file:
-            if text.count(old) != 1:
-                raise ValueError("%d places with %r" % (text.count(old), old))
-            text = text.replace(old, new)
+    true_modules = {name: sys.modules[name] for name in ("card", "script", "text")}
+    for name in (CARD, TEXT, SCRIPT, SELFTEST):
+        code = changed(name, old, new) if name == file else unchanged(name)
         modules[name] = types.ModuleType(name[:-3])
         try:
-            sys.modules.update({known[:-3]: modules[known] for known in (CARD, SCRIPT) if known in modules and known != name})
-            exec(compile(text, name, "exec"), modules[name].__dict__)
+            sys.modules.update({known[:-3]: modules[known] for known in (CARD, TEXT, SCRIPT) if known in modules and known != name})
+            exec(code, modules[name].__dict__)
         finally:
             sys.modules.update(true_modules)
     return modules
@@ -414,14 +612,43 @@ def lines_until_noticed(run, tests):
     return None
 
 
-def fails_selftest(selftest):
+def reading(texts, snapshot, text):
+    """What a text says: nothing where it is refused; else its card and area, and the text that they give again."""
+    found = texts.from_text(text)
+    return found and (snapshot(found[0]), bytes(found[1]), texts.to_text(*found))
+
+
+def texts_until_noticed(modules, tests):
+    """How many texts it takes to see a difference, or None."""
+    for number, (tried, expected) in enumerate(tests, 1):
+        try:
+            given = reading(modules[TEXT], modules[SELFTEST].snapshot, tried)
+        except Exception:  # As above.
+            return number
+        if given != expected:
+            return number
+    return None
+
+
+def fails_selftest(tested, names):
     with contextlib.redirect_stdout(io.StringIO()):
-        for name in SELFTESTS:
+        for name in names:
             try:
-                getattr(selftest, name)()
+                getattr(tested, name)()
             except Exception:  # As above.
                 return True
-    return selftest.failed > 0
+    return tested.failed > 0
+
+
+def changed_texts():
+    """Changed texts, each with what it says by the true model."""
+    made = text_cases.changed_texts(generate.Dice(1), TEXTS, [])
+    return [(tried, reading(text, selftest.snapshot, tried)) for _, tried in made]
+
+
+def told(name, needed):
+    needed.sort()
+    return "noticed after %d %s in the middle, the slowest after %d: %s" % (needed[len(needed) // 2][0], name, *needed[-1])
 
 
 def main():
@@ -442,14 +669,24 @@ def main():
         else:
             failed += 1
             print("FAILED: %s: noticed after %s lines" % (error, noticed))
-    for file, old, new, error in UNSHOWN:
-        if fails_selftest(mutated(file, old, new)[SELFTEST]):
+    texts, texts_needed = changed_texts(), []
+    for file, old, new, error in IN_LINES:
+        noticed = texts_until_noticed(mutated(file, old, new), texts)
+        texts_needed.append((noticed or 0, error))
+        if noticed is not None:
             passed += 1
         else:
             failed += 1
-            print("FAILED: %s: not noticed by the self-test" % error)
-    needed.sort()
-    print("noticed after %d lines in the middle, the slowest after %d: %s" % (needed[len(needed) // 2][0], *needed[-1]))
+            print("FAILED: %s: not noticed by %d texts" % (error, len(texts)))
+    for mutants, names in ((UNSHOWN, SELFTESTS), (IN_LINES + IN_CALLS, TEXT_SELFTESTS)):
+        for file, old, new, error in mutants:
+            if fails_selftest(mutated(file, old, new)[SELFTEST], names):
+                passed += 1
+            else:
+                failed += 1
+                print("FAILED: %s: not noticed by the self-test" % error)
+    print(told("lines", needed))
+    print(told("texts", texts_needed))
     print("%d passed, %d failed" % (passed, failed))
     return 1 if failed else 0
 

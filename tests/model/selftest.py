@@ -1,4 +1,4 @@
-"""Checks the model itself against document 01 and requests R-1 and R-2 of document 02: python3 tests/model/selftest.py
+"""Checks the model itself against document 01 and requests R-1, R-2 and R-4 of document 02: python3 tests/model/selftest.py
 
 The expected answers are worked out from the papers.
 """
@@ -8,6 +8,8 @@ import sys
 import card as cards
 import generate
 import script
+import text as texts
+import text_cases
 
 RANDOM = "00112233445566778899AABBCCDDEEFF"
 KEY = "000102030405060708090A0B0C0D0E0F"
@@ -522,6 +524,331 @@ def snapshot(made):
             made.files.index(made.current) if made.current in made.files else made.current, made.challenge)
 
 
+# A card of all four file types, its lines worked out by hand from the commands of lined_session.
+LINED = """\
+000102030405060708090A0B0C0D0E0F	128	128
+3837363534333231	5	5
+313233343536	3	2
+1	0	0	0104	0011223344556677
+0101	2800210001	0	0
+A100000000000000000000000000000000000000000000000000000000000000
+A2
+0102	2A02038000	0	0
+000000B1B2B3
+0103	2E03020000	2	1
+C1C2D1D20000
+0104	2C00080000	5	0
+01AA02BBCC000000
+"""
+# Whole files end with these of its lines.
+FILE_ENDS = (4, 7, 9, 11, 13)
+
+
+def lined_session():
+    session = device_session()
+    for sent in ("0020000106 313131313131", "80E00101 05 2800210001", "00D6000001 A1", "00D6002001 A2", "80E00102 05 2A02038000",
+                 "00DC020403 B1B2B3", "80E00103 05 2E03020000", "00E2000002 C1C2", "00E2000002 D1D2", "80E00104 05 2C00080000",
+                 "00E2000001 AA", "00E2000002 BBCC", "0084000008"):
+        session.send(sent)
+    # What stands past the last file is not written.
+    session.program.area[33 + 6 + 6 + 8:] = b"\xEE" * (4096 - 53)
+    return session
+
+
+def accepts(text):
+    return texts.from_text(text.encode("latin-1")) is not None
+
+
+def text_of_lines(lines):
+    return "".join(line + "\n" for line in lines)
+
+
+def with_field(number, field, value):
+    """The lines above with one field changed; lines count from 1 and fields from 0."""
+    lines = LINED.splitlines()
+    fields = lines[number - 1].split("\t")
+    fields[field] = value
+    lines[number - 1] = "\t".join(fields)
+    return text_of_lines(lines)
+
+
+def with_lines(number, *new):
+    """The lines above with others in the place of one."""
+    lines = LINED.splitlines()
+    lines[number - 1:number] = new
+    return text_of_lines(lines)
+
+
+def test_text_example():
+    session = lined_session()
+    card, area = session.program.card, session.program.area
+    check("the lines of a card", texts.to_text(card, area).decode(), LINED)
+    read, contents = texts.from_text(LINED.encode())
+    check("read, the same state", snapshot(read), snapshot(card))
+    check("read, the same file bytes, and 00 past the last file", bytes(contents), bytes(area[:53]) + bytes(4096 - 53))
+    session.program.card, session.program.area = read, contents
+    for sent, expected in (
+            ("0020000106 313233343536", "9000"), ("00B2011400", "6982"), ("00B2010400", "AA 9000"), ("00B2020400", "BBCC 9000"),
+            ("00E2000002 DDEE", "9000"), ("00B2030400", "DDEE 9000"), ("00B2011C00", "D1D2 9000"), ("00B2021C00", "C1C2 9000"),
+            ("00B2031C00", "6A83"), ("00B0812001", "A2 9000"), ("80E00105 05 2800010000", "9000")):
+        check("a card that was read, %s" % sent, session.send(sent), expected)
+
+    fresh = Session()
+    check("the lines of a new card", texts.to_text(fresh.program.card, fresh.program.area).decode(), """\
+000102030405060708090A0B0C0D0E0F	128	128
+3837363534333231	5	5
+313233343536	3	3
+0	0	0	-	-
+""")
+    # The lines say all that a call can tell: each state here is another one, and so is its text.
+    session = Session(user="1234567890123456", user_limit=1)
+    seen = []
+    for sent in ("0084000004", "0084000010", "0020000008 3837363534333231", "0020000106 313131313131", "0024010006 393837363534"):
+        session.send(sent)
+        seen.append(texts.to_text(session.program.card, session.program.area).decode().splitlines()[1:])
+    user = "31323334353637383930313233343536"
+    check("as commands change it", seen, [
+        ["3837363534333231\t5\t5", user + "\t1\t1", "0\t0\t0\t-\t00112233"],
+        ["3837363534333231\t5\t5", user + "\t1\t1", "0\t0\t0\t-\t" + RANDOM],
+        ["3837363534333231\t5\t5", user + "\t1\t1", "0\t1\t0\t-\t-"],
+        ["3837363534333231\t5\t5", user + "\t1\t0", "0\t1\t0\t-\t-"],
+        ["393837363534\t5\t5", user + "\t1\t0", "0\t1\t0\t-\t-"]])
+
+
+def test_text_fields():
+    """One field of the example changed. Those in the first list are still the lines of a sound card."""
+    key, admin, user, session, binary, fixed, cyclic, variable = 1, 2, 3, 4, 5, 8, 10, 12
+    for number, field, good, bad in (
+            (key, 0, ("FF" * 16, "00" * 16),
+             ("FF" * 15, "FF" * 17, "FF" * 15 + "F", "FF" * 15 + "FFF", "ff" * 16, "FF" * 15 + "Fg", "", "-", " " + "FF" * 16,
+              "0x" + "FF" * 15)),
+            # The device right is held, so its tries are its limit.
+            (key, 1, ("128",), ("127", "129", "0", "256", "384", "65535", "65664", "0128", "", "80", "12 8", "-")),
+            (key, 2, ("128",), ("127", "129", "0", "1", "384", "65664", "0128", "", "-")),
+            (admin, 0, ("303132333435", "39" * 16, "3837363534333230"),
+             ("3132333435", "31" * 17, "", "-", "2F3132333435", "3132333435" + "3A", "313233B33435", "00" * 6, "31323334353",
+              "3132333435363", "123456", "3132333435 36")),
+            (admin, 1, ("5", "6", "127", "128"),
+             ("4", "1", "0", "129", "255", "256", "261", "65535", "65541", "4294967301", "18446744073709551621", "05", "005", "+5",
+              "-5", " 5", "5 ", "5\r", "", "-", "5.", "A", "0x5", "5" * 5000)),
+            (admin, 2, ("0", "1", "4", "5"),
+             ("6", "128", "255", "256", "261", "65541", "4294967301", "00", "01", "05", "+5", "-0", "-1", " 5", "5 ", "5\r", "",
+              "-")),
+            (user, 0, ("303132333435",), ("3132333435", "31" * 17, "", "39" * 5 + "40")),
+            (user, 1, ("2", "3", "128"), ("1", "0", "129", "258")),
+            (user, 2, ("0", "1", "2", "3"), ("4", "258", "02")),
+            (session, 0, ("0", "1"), ("2", "", "-", "00", "01", "+1", " 1", "1 ", "true", "FF")),
+            # The admin PIN has all its tries left, and the user PIN has not.
+            (session, 1, ("0", "1"), ("2", "", "-", "00", "01")),
+            (session, 2, ("0",), ("1", "2", "", "-", "00", "01")),
+            (session, 3, ("-", "0101", "0102", "0103", "0104"),
+             ("0105", "0204", "0124", "3F00", "0000", "104", "00104", "0x104", "4", "", "--", " -", "- ", "01 4", "01010102")),
+            (session, 4, ("-", "00112233", "AABBCCDD", "FF" * 8, "00" * 4, "00" * 16),
+             ("", "00", "001122", "0011223344", "00" * 7, "00" * 9, "00" * 12, "00" * 15, "00" * 17, "aabbccdd", "AABBCCDd",
+              "0011223", "0", "--", "-0", "00112233 ", "0011223G")),
+            # SFIs 2, 3 and 4 are used by the other files.
+            (binary, 0, ("0101", "0105", "011E", "FF41", "0001", "3F01"),
+             ("0102", "0202", "0222", "0144", "0100", "0120", "011F", "013F", "0000", "3F00", "101", "00101", "01", "", "-", "01e1",
+              "01G1")),
+            (binary, 1, ("2800210001", "2800210F0F", "280021C1C1", "2800210000", "2800214080", "2C00210001"),
+             ("2800200001", "2800220001", "2800000001", "2810210001", "2821000001", "2700210001", "2900210001", "2B00210001",
+              "2D00210001", "2F00210001", "0000210001", "2800210201", "2800210002", "280021000E", "2800211001", "28002100FE",
+              "2800218F00", "28002100", "280021000100", "28 0021 00 01", "", "-", "2800210c01", "2800210C01")),
+            (binary, 2, ("0",), ("1", "33", "00", "", "-", "+0", "256")),
+            (binary, 3, ("0",), ("1", "00", "", "-", "256")),
+            (fixed, 1, ("2A02038000", "2A03028000", "2A06018000", "2800068000", "2C00068000", "2E02038000", "2E06018000"),
+             ("2A01068000", "2A00068000", "2A02048000", "2A02028000", "2A06008000", "2802038000", "2A02B38000", "2a02038000",
+              "2AFF018000")),
+            (fixed, 2, ("0",), ("1", "2", "-")),
+            (fixed, 3, ("0",), ("1", "-")),
+            (cyclic, 1, ("2E03020000", "2E02030000"), ("2E06010200", "2A03020000", "2800060000", "2C00060000", "2E01060000")),
+            (cyclic, 2, ("1", "2", "3"), ("0", "4", "02", "258", "-1", "", "-")),
+            (cyclic, 3, ("0", "1", "2"), ("3", "01", "00", "257", "-1", "", "-", "65537")),
+            (variable, 0, ("0104",), ("0105", "0101")),
+            (variable, 1, ("2C00080000",), ("2C00090000", "2C00070000", "2800080000", "2E02040000", "2C00080002")),
+            # Records of 1 and of 2 bytes, each behind its length; the byte after them is 00, which is no length.
+            (variable, 2, ("0", "2", "5"), ("1", "3", "4", "6", "7", "8", "9", "05", "261", "65541", "-", "")),
+            (variable, 3, ("0",), ("1", "00", "-"))):
+        for value in good:
+            check("good: line %d, field %d: %s" % (number, field, value[:40]), accepts(with_field(number, field, value)), True)
+        for value in bad:
+            check("bad: line %d, field %d: %s" % (number, field, value[:40]), accepts(with_field(number, field, value)), False)
+
+    for number, good, bad in (
+            (6, ("FF" * 32,), ("00" * 31, "00" * 33, "0" * 63, "0" * 65, "", "-", "aa" * 32, " " + "00" * 32, "00" * 32 + " ")),
+            (7, ("00", "FF"), ("", "0", "000", "A200", "a2", "A2 ", " A2", "-", "A2\r", "A2\t", "\tA2")),
+            (9, ("FF" * 6,), ("FF" * 5, "FF" * 7, "ff" * 6)),
+            # The place that holds no record is free.
+            (11, ("C1C2D1D2FFFF",), ("C1C2D1D2",)),
+            (13, ("01AA02BBCCFFFFFF", "01000200000000B3", "04AA02BBCC000000", "0200010100000000"),
+             ("01AA03BBCC000000", "02AA02BBCC000000", "00AA02BBCC000000", "05AA02BBCC000000", "03AA02BBCC000000",
+              "01AA01BBCC000000", "B4AA02BBCC000000", "FFAA02BBCC000000", "01AA02BBCC0000", "01AA02BBCC00000000",
+              "01aa02BBCC000000"))):
+        for value in good:
+            check("good: line %d: %s" % (number, value[:40]), accepts(with_lines(number, value)), True)
+        for value in bad:
+            check("bad: line %d: %s" % (number, value[:40]), accepts(with_lines(number, value)), False)
+
+    # Two fields together.
+    for name, text, expected in (
+            ("an empty cyclic file", with_lines(10, "0103\t2E03020000\t0\t0"), True),
+            ("an empty cyclic file with a newest place", with_lines(10, "0103\t2E03020000\t0\t1"), False),
+            ("a cyclic file that is not full, its newest at the last place", with_lines(10, "0103\t2E03020000\t1\t2"), True),
+            ("a limit of 1", with_lines(2, "3837363534333231\t1\t1"), True),
+            ("a limit of 1 and no tries", with_lines(2, "3837363534333231\t1\t0"), True),
+            ("a limit of 128", with_lines(2, "3837363534333231\t128\t128"), True),
+            ("a limit of 129", with_lines(2, "3837363534333231\t129\t129"), False),
+            ("a limit of 0", with_lines(2, "3837363534333231\t0\t0"), False),
+            ("no device right, some tries gone", with_field(1, 2, "0").replace("\n1\t0", "\n0\t0"), True),
+            ("a user right with all tries", with_field(3, 2, "3").replace("\n1\t0\t0", "\n1\t0\t1"), True),
+            ("all rights", with_field(3, 2, "3").replace("\n1\t0\t0", "\n1\t1\t1"), True),
+            ("the current file's FID and its file's in lower case", LINED.replace("0104", "01e4"), False),
+            ("the current file's FID and its file's in upper case", LINED.replace("0104", "01E4"), True),
+            ("a binary file of 32", with_lines(5, "0101\t2800200001\t0\t0").replace("A2\n", ""), True),
+            ("a binary file of 64", with_lines(5, "0101\t2800400001\t0\t0").replace("A2\n", "A2" * 32 + "\n"), True),
+            ("a binary file of 64 with an empty line", with_lines(5, "0101\t2800400001\t0\t0").replace("A2\n", "A2" * 32 + "\n\n"),
+             False),
+            ("all of a 2C file used", with_lines(12, "0104\t2C00080000\t8\t0").replace("CC000000\n", "CC020000\n"), True),
+            ("more used than there is", with_lines(12, "0104\t2C00080000\t9\t0").replace("CC000000\n", "CC030000\n"), False)):
+        check(name, accepts(text), expected)
+
+    read, _ = texts.from_text(with_lines(2, "39" * 16 + "\t7\t6").encode())
+    check("the fields go where they belong", (read.admin.value, read.admin.limit, read.admin.tries, read.admin.held),
+          (b"9" * 16, 7, 6, False))
+
+
+def test_text_lines():
+    """Lines that are missing, added or in another order, and what stands between the fields and behind the last newline."""
+    lines = LINED.splitlines()
+    check("no lines", accepts(""), False)
+    check("without a line", [number for number in range(1, 14) if accepts(with_lines(number))], [])
+    check("with a line twice", [number for number in range(1, 14) if accepts(with_lines(number, *[lines[number - 1]] * 2))], [])
+    check("with an empty line before one",
+          [number for number in range(1, 14) if accepts(with_lines(number, "", lines[number - 1]))], [])
+    check("with one line of the contents less", accepts(LINED.replace(lines[5] + "\n", "")), False)
+
+    def swapped(first, second):
+        order = list(lines)
+        order[first - 1], order[second - 1] = order[second - 1], order[first - 1]
+        return text_of_lines(order)
+
+    # The PINs may change places, for neither right is held. So may the lines of the two files of 6 bytes, and their contents.
+    check("with two lines swapped", [(first, second) for first in range(1, 14) for second in range(first + 1, 14)
+                                     if accepts(swapped(first, second))], [(2, 3), (8, 10), (9, 11)])
+    first, second, third, fourth = [lines[start:end] for start, end in zip(FILE_ENDS, FILE_ENDS[1:])]
+    for name, files, expected in (
+            ("files in another order", (fourth, third, second, first), True), ("a file less", (second, third, fourth), True),
+            ("the current file missing", (first, second, third), False),
+            ("a file twice", (first, second, second, third, fourth), False),
+            ("its line and contents apart", (first[:1], second, first[1:], third, fourth), False)):
+        check(name, accepts(text_of_lines(lines[:4] + sum(files, []))), expected)
+
+    # Cut off anywhere: only whole files are a card, and only where the current one is among them.
+    check("cut off", [length for length in range(len(LINED)) if accepts(LINED[:length])], [])
+    free = with_field(4, 3, "-")
+    ends = [len(text_of_lines(free.splitlines()[:count])) for count in FILE_ENDS]
+    check("cut off, no file current", [length for length in range(len(free) + 1) if accepts(free[:length])], ends)
+    for name, text in (
+            ("no last newline", LINED[:-1]), ("a newline more", LINED + "\n"), ("a newline before", "\n" + LINED),
+            ("a byte behind", LINED + "\x00"), ("a blank behind", LINED + " "), ("the text twice", LINED * 2),
+            ("CR and newline", LINED.replace("\n", "\r\n")), ("CR for newline", LINED.replace("\n", "\r")),
+            ("a CR in the last line", LINED[:-1] + "\r\n"), ("a form feed between lines", LINED.replace("\n", "\f", 1)),
+            ("two tabs", LINED.replace("\t", "\t\t", 1)), ("a blank for a tab", LINED.replace("\t", " ", 1)),
+            ("a tab at the start", "\t" + LINED), ("a tab at a line's end", LINED.replace("\n", "\t\n", 1)),
+            ("a comma for a tab", LINED.replace("\t", ",", 1)), ("lower case", LINED.lower()), ("a comment", "# a card\n" + LINED),
+            ("a byte order mark", "\xEF\xBB\xBF" + LINED), ("a zero byte for a tab", LINED.replace("\t", "\x00", 1)),
+            ("a tab for a newline", LINED.replace("\n", "\t", 1)), ("a newline for a tab", LINED.replace("\t", "\n", 1))):
+        check(name, accepts(text), False)
+
+
+def test_text_sizes():
+    start = text_of_lines(LINED.splitlines()[:3]) + "0\t0\t0\t-\t-\n"
+
+    def files(*sizes):
+        """Binary files of so many bytes, their SFIs from 1 on."""
+        text = start
+        for number, size in enumerate(sizes, 1):
+            text += "%04X\t28%04X0000\t0\t0\n" % (number, size) + ("55" * 32 + "\n") * (size // 32)
+            if size % 32 > 0:
+                text += "66" * (size % 32) + "\n"
+        return text
+
+    for name, sizes, expected in (
+            ("16 files", (1,) * 16, True), ("17 files", (1,) * 17, False), ("30 files", (1,) * 30, False),
+            ("4,096 bytes", (4096,), True),
+            ("4,096 bytes and one more", (4096, 1), False), ("4,097 bytes in 16 files", (256,) * 15 + (257,), False),
+            ("4,096 bytes in 16 files", (256,) * 16, True), ("two files of 4,096", (4096, 4096), False)):
+        check(name, accepts(files(*sizes)), expected)
+    for size in (1, 31, 32, 33, 63, 64, 65):
+        text = files(size)
+        card, area = texts.from_text(text.encode())
+        check("a file of %d" % size, (texts.to_text(card, area).decode(), bytes(area[:size])),
+              (text, bytes.fromhex("55" * (size // 32 * 32) + "66" * (size % 32))))
+
+    # One file, its contents given as hex.
+    for created, held, contents, expected in (
+            ("2800000000", 0, "", False), ("2800010000", 0, "55", True), ("2C00010000", 0, "55", False),
+            ("2C00020000", 0, "5555", True), ("2C00020000", 2, "0155", True), ("2C00020000", 2, "0055", False),
+            ("2A01010000", 0, "55", False), ("2A02010000", 0, "5555", True), ("2AFE010000", 0, "55" * 254, True),
+            ("2AFF010000", 0, "55" * 255, False), ("2A02000000", 0, "", False), ("2A02B20000", 0, "55" * 356, True),
+            ("2A02B30000", 0, "55" * 358, False), ("2EFE010000", 254, "55" * 254, True), ("2EFF010000", 255, "55" * 255, False),
+            ("2E02000000", 0, "", False), ("2E02B20000", 2, "55" * 356, True), ("2E02B30000", 2, "55" * 358, False),
+            # Records of 178 and of 179 bytes, and six of 178, which take 1,074.
+            ("2C00B30000", 179, "B2" + "55" * 178, True), ("2C00B40000", 180, "B3" + "55" * 179, False),
+            ("2C00B50000", 181, "B2" + "55" * 178 + "0155", True), ("2C04320000", 1074, ("B2" + "55" * 178) * 6, True),
+            ("2C04320000", 1073, ("B2" + "55" * 178) * 6, False), ("2C04320000", 1075, ("B2" + "55" * 178) * 6, False),
+            ("2C10000000", 4096, "0155" * 2048, True), ("2810000000", 0, "55" * 4096, True), ("2810010000", 0, "55" * 4097, False)):
+        lines = [contents[place:place + 64] for place in range(0, len(contents), 64)]
+        text = start + text_of_lines(["0001\t%s\t%d\t0" % (created, held)] + lines)
+        check("a file made by %s, %d held or used" % (created, held), accepts(text), expected)
+
+    # The longest text. Credentials with sixteen bytes and three digits twice: 3 x 41. The session: 44. Sixteen cyclic files with
+    # 24 bytes a line, as held and newest have three digits: 384. All 4,096 bytes: 8,192 digits, in 143 lines where the files end
+    # 2 bytes behind a whole line: 15 x 258 + 226 = 4,096, and 15 x 9 + 8 = 143. Together 8,886.
+    longest = text_of_lines(["FF" * 16 + "\t128\t128"] + ["39" * 16 + "\t128\t128"] * 2 + ["1\t1\t1\tFF01\t" + "FF" * 16])
+    for number in range(1, 17):
+        count = 129 if number < 16 else 113
+        longest += text_of_lines(["FF%02X\t2E%02X02C1C1\t%d\t%d" % (number, count, count, count - 1)]
+                                 + ["FF" * 32] * (count * 2 // 32) + ["FFFF"])
+    check("the longest text", (len(longest), accepts(longest)), (8886, True))
+
+
+def test_text_calls():
+    session = lined_session()
+    card, area, text = session.program.card, session.program.area, LINED.encode()
+
+    def write(card, size, area=area):
+        buffer = bytearray(b"\xEE" * size)
+        return texts.write(card, area, buffer), bytes(buffer)
+
+    check("written", write(card, len(text)), ((0, len(text)), text))
+    check("the rest of the buffer stays", write(card, len(text) + 5), ((0, len(text)), text + b"\xEE" * 5))
+    for size in (0, 1, len(text) - 1):
+        check("a buffer of %d" % size, write(card, size), ((10, 0), b"\xEE" * size))
+    for size in (0, 4095, 4097):
+        check("an area of %d" % size, write(card, 9000, bytearray(size)), ((2, 0), b"\xEE" * 9000))
+        check("an area of %d first" % size, write(cards.Card(), 0, bytearray(size)), ((2, 0), b""))
+    check("a blank state", write(cards.Card(), 9000), ((4, 0), b"\xEE" * 9000))
+    check("a blank state first", write(cards.Card(), 0), ((4, 0), b""))
+    area[53 - 8] = 0
+    check("a record of no bytes", write(card, 9000), ((4, 0), b"\xEE" * 9000))
+
+    def read(text, size=4096):
+        lent = bytearray(b"\xEE" * size)
+        outcome, card = texts.read(lent, text)
+        return outcome, snapshot(card), bytes(lent)
+
+    area[53 - 8] = 1
+    blank = snapshot(cards.Card())
+    check("read", read(text), (0, snapshot(card), bytes(area[:53]) + bytes(4096 - 53)))
+    for refused in (b"", text[:-1], text + b"\n", bytes(65536)):
+        check("refused", read(refused), (11, blank, b"\xEE" * 4096))
+        for size in (0, 4095, 4097):
+            check("refused by an area of %d" % size, read(refused, size), (2, blank, b"\xEE" * size))
+    for size in (0, 4095, 4097):
+        check("an area of %d for a good text" % size, read(text, size), (2, blank, b"\xEE" * size))
+
+
 def test_framing():
     session = Session()
     for sent, expected in (
@@ -973,6 +1300,50 @@ class Contents(Beside):
         return b"", 0x9000
 
 
+class ReadBack:
+    """A second card beside the model's, which was written as lines and read. It has to answer as the first does."""
+
+    def __init__(self):
+        self.program = None
+        self.texts = 0
+        self.compared = 0
+        self.disagreements = []
+
+    def watch(self, program, line, answer):
+        if self.program is not None:
+            self.compared += 1
+            if self.program.answer(line) != answer:
+                self.disagreements.append((line, answer))
+        # A written card goes on as it was, so that most of what follows is compared.
+        if program.card is not None and (line.startswith(b"ISSUE") or self.compared % 23 == 0):
+            text = texts.to_text(program.card, program.area)
+            self.texts += 1
+            self.program = script.Program()
+            outcome, self.program.card = texts.read(self.program.area, text)
+            if outcome != 0 or snapshot(self.program.card) != snapshot(program.card):
+                self.disagreements.append((line, text))
+
+
+def test_text_generated():
+    for seed in range(1, 4):
+        read_back = ReadBack()
+        generate.Generator(seed, 3000, read_back.watch).write()
+        check("cards that were read answer as before, seed %d" % seed, read_back.disagreements[:3], [])
+        check("cards are read often, seed %d" % seed, (read_back.texts > 100, read_back.compared > 2500), (True, True))
+
+    accepted, refused, other = 0, 0, []
+    for kind, text in text_cases.changed_texts(generate.Dice(1), 3000, []):
+        found = texts.from_text(text)
+        if found is None:
+            refused += 1
+        else:
+            accepted += 1
+            if texts.to_text(*found) != text:
+                other.append((kind, text))
+    check("an accepted text, written again, is the same text", other[:3], [])
+    check("both are met often", (accepted > 300, refused > 1000), (True, True))
+
+
 def test_generated():
     check("a seed always gives the same script", generate.script_of(7, 500), generate.script_of(7, 500))
     check("seeds differ", generate.script_of(7, 500) == generate.script_of(8, 500), False)
@@ -998,7 +1369,8 @@ def test_generated():
 
 def main():
     for test in (test_cipher, test_example, test_edges, test_errors_that_look_right, test_calls, test_variable_soundness,
-                 test_variable_space, test_variable_records, test_variable_many, test_framing, test_files, test_read_to_end,
+                 test_variable_space, test_variable_records, test_variable_many, test_text_example, test_text_fields,
+                 test_text_lines, test_text_sizes, test_text_calls, test_text_generated, test_framing, test_files, test_read_to_end,
                  test_rights, test_credentials, test_grammar, test_generated):
         test()
     print("%d passed, %d failed" % (passed, failed))

@@ -6,20 +6,13 @@ What is expected was worked out from them, and stands with the reason; cryptogra
 import subprocess
 import tempfile
 
-from stack import ADMIN_PIN, ISSUE_WORDS, KEY, USER_PIN, OpenscTool, Scriptor, card, check, end, wait_until
+from stack import ADMIN_PIN, ISSUE_WORDS, KEY, USER_PIN, OpenscTool, Scriptor, card, check, cryptogram, end, wait_until
 
 ALARMS = ["000000010702000C", "0000000203010005", "000000030702002D", "0000000420060078", "000000050C040003"]
 NOTES = [b"LINE 7 BELT".hex().upper(), b"FUSE 12A".hex().upper(), b"OK".hex().upper()]
 CORRECTED = b"FUSE 16A".hex().upper()
 RIGHT_PIN, WRONG_PIN = "0020000106313233343536", "0020000106313131313131"
 QUERY = "00200001"
-
-
-def cryptogram(challenge):
-    """AES-128 under the device key of the challenge filled with 00 to 16 bytes, by openssl."""
-    block = bytes.fromhex(challenge).ljust(16, b"\0")
-    command = ["openssl", "enc", "-aes-128-ecb", "-nopad", "-K", KEY]
-    return subprocess.run(command, input=block, capture_output=True, check=True).stdout.hex().upper()
 
 
 class Asking:

@@ -26,6 +26,8 @@ passed = failed = 0
 
 # So that what was started is ended where a test is stopped from outside.
 signal.signal(signal.SIGTERM, lambda *_: sys.exit(1))
+# What a script starts in the background ignores Ctrl-C, and so would a reader that is started here.
+signal.signal(signal.SIGINT, signal.default_int_handler)
 
 
 def check(name, good, seen=""):
@@ -52,6 +54,13 @@ def wait_until(true, what):
         time.sleep(0.05)
 
 
+def cryptogram(challenge):
+    """AES-128 under the device key of the challenge filled with 00 to 16 bytes, by openssl."""
+    block = bytes.fromhex(challenge).ljust(16, b"\0")
+    command = ["openssl", "enc", "-aes-128-ecb", "-nopad", "-K", KEY]
+    return subprocess.run(command, input=block, capture_output=True, check=True).stdout.hex().upper()
+
+
 # ---- the reader
 
 
@@ -74,6 +83,11 @@ class Reader:
 
         wait_until(events, "an end of the card's power")
         return events()[0]
+
+    def kill(self, number=signal.SIGKILL):
+        """Ends it by a signal, and waits until it is gone."""
+        self.process.send_signal(number)
+        self.process.wait(SECONDS)
 
     def end(self):
         if self.process.poll() is None:

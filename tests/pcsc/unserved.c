@@ -39,3 +39,18 @@ uint8_t limpet_reset(struct limpet_card *card, const uint8_t *area, size_t area_
     (void)card, (void)area, (void)area_len;
     return resets++ == 0 ? LIMPET_OK : LIMPET_UNSOUND; /* the first is that of putting it in */
 }
+
+uint8_t limpet_to_text(const struct limpet_card *card, const uint8_t *area, size_t area_len,
+                       uint8_t *text, size_t text_len, size_t *text_count)
+{
+    (void)card, (void)area, (void)area_len, (void)text, (void)text_len;
+    *text_count = 0;
+    return LIMPET_UNSOUND;
+}
+
+uint8_t limpet_from_text(struct limpet_card *card, uint8_t *area, size_t area_len,
+                         const uint8_t *text, size_t text_len)
+{
+    (void)card, (void)area, (void)area_len, (void)text, (void)text_len;
+    return getenv("TAKES_ANY_TEXT") == NULL ? LIMPET_BAD_TEXT : LIMPET_OK;
+}

@@ -2,11 +2,14 @@
 """The reader's program without pcscd: its arguments, and its side of vpcd's messages with this test as the virtual reader."""
 import contextlib
 import os
+import random
 import socket
+import stat
 import subprocess
 import tempfile
+import threading
 
-from stack import ISSUE_WORDS, READER, ROOT, SECONDS, UNSERVED, X86, Reader, check, end, wait_until
+from stack import ADMIN_PIN, ISSUE_WORDS, KEY, READER, ROOT, SECONDS, UNSERVED, USER_PIN, X86, Reader, check, end, wait_until
 
 OFF, ON, RESET, GET_ATR = (bytes([code]) for code in (0, 1, 2, 4))
 QUERY, RIGHT_PIN = bytes.fromhex("00200001"), bytes.fromhex("0020000106313233343536")
@@ -37,7 +40,8 @@ def arguments():
     status, out, err = run("--help")
     check("--help", status == 0 and out.startswith("usage: ") and err == "", (status, err))
     for words in ([], ["a", "b"], [*ISSUE_WORDS, "x"], ["--port"], ["--port", "0", "x"], ["--port", "65536", "x"],
-                  ["--port", "7x", "x"], ["--colour", "x"]):
+                  ["--port", "7x", "x"], ["--colour", "x"], ["--card"], ["--card", "x", "a", "b"],
+                  ["--card", "x", *ISSUE_WORDS, "x"]):
         refused(f"bad usage: {' '.join(words)}", 2, "usage: ", *words)
     refused("a file that is not there", 1, "cannot read none: No such file", "none")
     refused("a folder", 1, "cannot read tests: Is a directory", "tests")
@@ -178,6 +182,172 @@ def unserved():
     check("a library of another version", ended.returncode == 1 and "different versions" in ended.stderr, ended)
 
 
-for test in (arguments, scripts, messages, broken, prepared, unserved):
+# ---- a card that is kept in a file
+
+WRONG_PIN = bytes.fromhex("0020000106313131313131")
+LOGIN = ["0084000010", "008200001069C4E0D86A7B0430D8CDB78070B4C55A"]  # FIPS 197's appendix C.1, with RANDOM
+RANDOM = "00112233445566778899AABBCCDDEEFF"
+
+
+def lines_of(*commands):
+    return "".join(f"CMD\t{command}\t{RANDOM}\n" for command in commands)
+
+
+def hex_of(pin):
+    return pin.encode().hex()
+
+
+def new_card(tries=3, session="0\t0\t0\t-\t-"):
+    """The text of a card that was issued with ISSUE_WORDS."""
+    return f"{KEY}\t128\t128\n{hex_of(ADMIN_PIN)}\t5\t5\n{hex_of(USER_PIN)}\t3\t{tries}\n{session}\n"
+
+
+class Kept:
+    """A card's file in a folder of its own."""
+
+    def __init__(self, folder, text=None):
+        self.folder = folder
+        self.path = os.path.join(folder, "box.card")
+        self.next = os.path.join(folder, ".box.card.new")
+        if text is not None:
+            with open(self.path, "w", encoding="ascii", opener=lambda path, flags: os.open(path, flags, 0o600)) as file:
+                file.write(text)
+
+    def read(self):
+        with open(self.path, encoding="ascii") as file:
+            return file.read()
+
+    def which(self):
+        """Another number where it was stored again."""
+        return os.stat(self.path).st_ino, os.stat(self.path).st_mtime_ns
+
+
+@contextlib.contextmanager
+def kept_card(text=None):
+    with tempfile.TemporaryDirectory(prefix="limpet-kept-") as folder:
+        yield Kept(folder, text)
+
+
+def made_or_loaded():
+    with kept_card() as kept:
+        none = f"there is no file {kept.path}, and nothing that says which card to make"
+        refused("--card without a file", 1, none, "--card", kept.path)
+        refused("--card with a bad script", 1, "cannot read none: No such file", "--card", kept.path, "none")
+        refused("--card with bad values", 1, "a limit not 1 to 128", "--card", kept.path, *ISSUE_WORDS[:5], "0")
+        check("these make no file", os.listdir(kept.folder) == [], os.listdir(kept.folder))
+        refused("--card with a folder", 1, "is a folder, and a card is a file", "--card", kept.folder, *ISSUE_WORDS)
+        os.symlink("x", kept.path)
+        refused("--card with a symbolic link", 1, "is a symbolic link", "--card", kept.path, *ISSUE_WORDS)
+        os.remove(kept.path)
+        with connected("--card", kept.path, *ISSUE_WORDS) as (line, reader):
+            check("a new card", line.ask(QUERY) == "63C3")
+            check("a new card is in its file", kept.read() == new_card() and os.listdir(kept.folder) == ["box.card"])
+            check("for its owner alone", stat.S_IMODE(os.stat(kept.path).st_mode) == 0o600)
+            check("a wrong PIN", line.ask(WRONG_PIN) == "63C2")
+        others = [KEY, "128", ADMIN_PIN, "5", "999999", "9"]
+        with tempfile.NamedTemporaryFile("w", prefix="limpet-script-") as script:
+            script.write("no script at all")
+            script.flush()
+            with connected("--card", kept.path, "--prepare", script.name, *others) as (line, reader):
+                check("a file that is there is only loaded", line.ask(QUERY) == "63C2")
+                check("and that is said", f"{kept.path} is there, so its card is put in and no other is made\n" in reader.said())
+        with connected("--card", kept.path) as (line, reader):
+            check("and loaded without any values", line.ask(QUERY) == "63C2")
+            check("without a word", reader.said().count("\n") == 1, reader.said())
+    with kept_card("no card\n") as kept:
+        no_card = "not the lines of a sound card; tools/card check says more"
+        refused("--card with a file that is no card", 1, no_card, "--card", kept.path)
+        check("which is left as it is", kept.read() == "no card\n")
+    with kept_card() as kept, tempfile.NamedTemporaryFile("w", prefix="limpet-script-") as script:
+        script.write(lines_of(*LOGIN, "80E0A102052800020000", WRONG_PIN.hex().upper()))
+        script.flush()
+        with connected("--card", kept.path, "--prepare", script.name, *ISSUE_WORDS) as (line, reader):
+            due = new_card(2) + "A102\t2800020000\t0\t0\n0000\n"
+            check("a prepared card is stored after its reset", kept.read() == due, kept.read())
+    with kept_card(new_card()) as kept:
+        os.chmod(kept.path, 0o644)
+        with connected("--card", kept.path) as (line, reader):
+            line.ask(QUERY)
+            check("others can read it: a warning", "is open to others (mode 644)" in reader.said(), reader.said())
+
+
+def stored_before_the_answer():
+    with kept_card(new_card(session="1\t1\t0\t-\t00112233")) as kept:
+        with connected("--card", kept.path) as (line, reader):
+            check("a stored session is gone", line.ask(bytes.fromhex("00200000")) == "63C5")
+            check("in the file too", kept.read() == new_card())
+            check("a wrong PIN", line.ask(WRONG_PIN) == "63C2")
+            check("is in the file with its answer", kept.read() == new_card(2))
+            check("the right one", line.ask(RIGHT_PIN) == "9000")
+            check("is too, without the right", kept.read() == new_card(3))
+            before = kept.which()
+            for name, command in (("a question", "00200001"), ("the right PIN again", RIGHT_PIN.hex()),
+                                  ("a challenge", "0084000010"), ("no command", "05"), ("no such file", "00A4000002A101")):
+                line.ask(bytes.fromhex(command))
+                check(f"{name} changes nothing that lasts, and is not stored", kept.which() == before and kept.read() == new_card())
+            for code in (OFF, ON, RESET):
+                line.put(code)
+            check("nor is a reset", line.ask(QUERY) == "63C3" and kept.which() == before)
+            check("nothing stands beside it", os.listdir(kept.folder) == ["box.card"], os.listdir(kept.folder))
+
+
+def not_stored():
+    """Where the file cannot be stored the command was not done. A folder stands in the way of the new file here."""
+    with kept_card(new_card()) as kept, connected("--card", kept.path) as (line, reader):
+        check("the right PIN", line.ask(RIGHT_PIN) == "9000")
+        os.mkdir(kept.next)
+        check("a command that cannot be stored is 6F00", line.ask(WRONG_PIN) == "6F00")
+        why = f"limpet-reader: cannot store {kept.path}: Is a directory; it is as it was\n"
+        check("the terminal says why", why in reader.said(), reader.said())
+        check("the card is as it was, and so is its right", line.ask(QUERY) == "9000")
+        check("the file too", kept.read() == new_card())
+        line.put(RESET)
+        check("a reset drops the right all the same", line.ask(QUERY) == "63C3")
+        check("again", line.ask(WRONG_PIN) == "6F00" and line.ask(QUERY) == "63C3")
+        os.rmdir(kept.next)
+        check("then it can be stored again", line.ask(WRONG_PIN) == "63C2" and kept.read() == new_card(2))
+        with open(kept.next, "w", encoding="ascii") as file:
+            file.write("left over")
+        check("what a killed reader left is no hindrance", line.ask(WRONG_PIN) == "63C1")
+        check("and goes", os.listdir(kept.folder) == ["box.card"], os.listdir(kept.folder))
+        os.remove(kept.path)
+        check("a file that is removed is 6F00", line.ask(WRONG_PIN) == "6F00" and line.ask(QUERY) == "63C1")
+        check("and is not made again", os.listdir(kept.folder) == [], os.listdir(kept.folder))
+        check("as the terminal says", "another program has removed or replaced it" in reader.said(), reader.said())
+    with kept_card(new_card(session="1\t0\t0\t-\t-")) as kept:
+        os.mkdir(kept.next)
+        refused("a file that cannot be stored is noticed at the start", 1, "cannot store", "--card", kept.path)
+        os.rmdir(kept.next)
+        with connected("--card", kept.path) as (line, reader):
+            line.ask(QUERY)
+            refused("a second reader on one card", 1, f"{kept.path} is in use", "--card", kept.path)
+            check("the first goes on", line.ask(WRONG_PIN) == "63C2" and kept.read() == new_card(2))
+
+
+def killed_at_random():
+    """Each value that was written and answered is in the file when the reader is killed, and at most the next one."""
+    dice = random.Random(3)
+    with kept_card() as kept, tempfile.NamedTemporaryFile("w", prefix="limpet-script-") as script:
+        script.write(lines_of(*LOGIN, "80E0A102052800040000"))
+        script.flush()
+        value, kills = 0, 20
+        for turn in range(kills):
+            with connected("--card", kept.path, "--prepare", script.name, *ISSUE_WORDS) as (line, reader):
+                line.ask(QUERY)
+                threading.Timer(dice.uniform(0, 0.05), reader.process.kill).start()
+                begun = value
+                with contextlib.suppress(RuntimeError, OSError):
+                    while line.ask(bytes.fromhex(f"00D6820004{value + 1:08X}")) == "9000":
+                        value += 1
+                reader.process.wait(SECONDS)
+            stored = int(kept.read().splitlines()[-1], 16)
+            good = value <= stored <= value + 1 and set(os.listdir(kept.folder)) <= {"box.card", ".box.card.new"}
+            check(f"killed after {value - begun} answers", good, (value, stored, os.listdir(kept.folder)))
+            value = stored
+        check("values were written", value > kills, value)
+
+
+for test in (arguments, scripts, messages, broken, prepared, unserved, made_or_loaded, stored_before_the_answer, not_stored,
+             killed_at_random):
     test()
 end()

@@ -3,6 +3,7 @@
 library=target/staticlib/liblimpetnook.a
 built=target/c
 reader=target/reader/limpet-reader
+card_program=target/reader/limpet-card
 strict=(-Wall -Wextra -pedantic -Werror -Iinclude)
 
 # The programs and libraries here are for x86-64: the compilers for it, and the Debian packages with them and with what watches
@@ -22,9 +23,10 @@ fi
 # has PACKAGE: whether what is used here of that Debian package is there.
 has() {
     case $1 in
-    gcc | g++ | openssl | pcscd | python3 | valgrind) command -v "$1" ;;
+    clang | gcc | g++ | openssl | pcscd | python3 | valgrind) command -v "$1" ;;
     gcc-x86-64-linux-gnu | g++-x86-64-linux-gnu) command -v "x86_64-linux-gnu-${1%%-*}" ;;
     libc6-dev) gcc -E -include stdio.h -x c /dev/null ;;
+    libclang-rt-dev) test -e "$(clang -print-runtime-dir)/libclang_rt.fuzzer-x86_64.a" ;;
     libc6-dev-amd64-cross) x86_64-linux-gnu-gcc -E -include stdio.h -x c /dev/null ;;
     libbearssl-dev) gcc -E -include bearssl.h -x c /dev/null ;;
     libssl-dev) gcc -E -include openssl/evp.h -x c /dev/null ;;
@@ -130,6 +132,22 @@ build_reader() {
     fi
 }
 
+# card_is_old: whether there is no program of tools/card, or one older than its code.
+card_is_old() {
+    [ ! -e $card_program ] || [ -n "$(find tools/cards reader include $library -type f -newer $card_program -print -quit)" ]
+}
+
+# build_card [PROGRAM FLAG...]: the program of tools/card, over $library, where it is old. With a name it is built under that one,
+# with these flags and files more.
+build_card() {
+    local program=${1:-$card_program}
+    if (($# > 0)) || card_is_old; then
+        need "${for_c[@]}" || return
+        mkdir -p "$(dirname "$program")"
+        $cc -std=c11 -O2 "${strict[@]}" -Ireader "${@:2}" tools/cards/*.c reader/{card,lines,say,script,store}.c $library -o "$program"
+    fi
+}
+
 # build_program NAME FLAG...: builds $built/NAME, one of the programs in C of tests/c and bench, over $library. What follows a hyphen in
 # the name tells builds of one program apart; NAME-faulty has tests/c/faults.c in between.
 build_program() {
@@ -138,15 +156,18 @@ build_program() {
     case ${name%%-*} in
     inplace) sources=(tests/c/{inplace,watched,layout,lent}.c reader/lines.c) ;;
     refusals) sources=(tests/c/{refusals,spoiled,areas,groups,cards,watched,layout,lent}.c) ;;
+    texts) sources=(tests/c/{texts,watched,layout,lent}.c) ;;
     stack) sources=(tests/c/{stack,play}.c reader/lines.c) ;;
     verifies | blocks | compare) sources=("tests/c/${name%%-*}.c") ;;
     calls) sources=(bench/{calls,measure}.c tests/c/play.c reader/lines.c) ;;
     notes) sources=(bench/{notes,measure}.c) ;;
+    timed_texts) sources=(bench/{texts,plain_text,measure}.c tests/c/{cards,watched,layout,lent}.c) ;;
+    fuzz_texts) sources=(tests/c/{fuzz_texts,cards,watched,layout,lent}.c bench/{plain_text,measure}.c) ;;
     *) echo "there is no program $name" >&2 && return 1 ;;
     esac
     if [[ $name == *-faulty ]]; then
         sources+=(tests/c/faults.c)
-        set -- "$@" -Wl,--wrap=limpet_issue,--wrap=limpet_command,--wrap=limpet_reset
+        set -- "$@" -Wl,--wrap=limpet_issue,--wrap=limpet_command,--wrap=limpet_reset,--wrap=limpet_to_text,--wrap=limpet_from_text
     fi
     mkdir -p $built
     rm -f "$built/$name" # so that what is run is what was built now

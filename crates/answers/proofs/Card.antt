@@ -22,5 +22,7 @@ card = record {
   issue-issue = λ κs a x y p q i. let z = issued p q i in (z .0, (z .1, (tt, (tt, (tt, (tt, (tt, (tt, tt))))))));
   issue-reset = λ κs a x y. returned;
   sound-is-sound = λ κs a x y. returned;
+  state-answer = λ κs a x y. returned;
+  words-same = λ κs a x y. returned;
   step-command = λ κs a x y p q i. let z = commands p q i in (z .0, (tt, (z .1 .0, (tt, (tt, (z .1 .1, tt))))));
 }

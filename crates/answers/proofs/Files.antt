@@ -6,14 +6,9 @@ use Rattle.files.specs.declared.File.{File}
 use Rattle.files.specs.declared.Directory.{Directory}
 use Rattle.files.specs.declared.FileAnswer.{FileAnswer}
 use Rattle.files.specs.declared.DirectoryAnswer.{DirectoryAnswer}
-use Rattle.files.specs.Words.{Bounded}
 use Rattle.files.specs.Part.{Reading, Writing, FileWriting, DirectoryWriting}
 use Rattle.answers.specs.Files.{Files}
-use Rattle.answers.proofs.Laws.{Same, one-answer, returned, with-lent}
-
--- the bound beside the equation leaves no choice and takes none
-bounded : {L : Type 0} {most v r r′ : ℕ} {l : L} → Bounded most v r → Bounded most v r′ → Same r r′ l l
-bounded p q = returned (p .is) (q .is)
+use Rattle.answers.proofs.Laws.{Same, one-answer, returned, bounded, with-lent}
 
 reading : {served : Bool} {bytes buffer : List ℕ} {r r′ : Bool} {l l′ : List ℕ}
     → Reading served bytes buffer r l → Reading served bytes buffer r′ l′ → Same r r′ l l′
@@ -37,7 +32,9 @@ files = record {
   state-new-file = λ κs a x y. returned;
   state-blank-file = λ κs a x y. returned;
   state-with-newest = λ κs a x y. returned;
+  state-with-used = λ κs a x y. returned;
   state-no-files = λ κs a x y. returned;
+  state-added = λ κs a x y. returned;
   and-or-both = λ κs a x y. returned;
   and-or-either = λ κs a x y. returned;
   numbers-wide = λ κs a x y. bounded;
@@ -68,6 +65,7 @@ files = record {
   binary-in-binary = λ κs a x y. returned;
   binary-read = λ κs a x y p q i. let z = reading p q i in (z .0, (tt, (tt, (tt, (tt, (z .1, tt))))));
   binary-update = λ κs a x y p q i. let z = writing p q i in (z .0, (tt, (z .1, (tt, (tt, tt)))));
+  record-bytes-used = λ κs a x y. bounded;
   record-sound-held = λ κs a x y. returned;
   record-locate = λ κs a x y. returned;
   record-grows = λ κs a x y. returned;

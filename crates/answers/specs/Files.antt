@@ -6,7 +6,9 @@ pub record Files : Type 0 where
   pub state-new-file : OneAnswer files.state.new_file.ended files.state.new_file.Reads.Learnt
   pub state-blank-file : OneAnswer files.state.blank_file.ended files.state.blank_file.Reads.Learnt
   pub state-with-newest : OneAnswer files.state.with_newest.ended files.state.with_newest.Reads.Learnt
+  pub state-with-used : OneAnswer files.state.with_used.ended files.state.with_used.Reads.Learnt
   pub state-no-files : OneAnswer files.state.no_files.ended files.state.no_files.Reads.Learnt
+  pub state-added : OneAnswer files.state.added.ended files.state.added.Reads.Learnt
   pub and-or-both : OneAnswer files.and_or.both.ended files.and_or.both.Reads.Learnt
   pub and-or-either : OneAnswer files.and_or.either.ended files.and_or.either.Reads.Learnt
   pub numbers-wide : OneAnswer files.numbers.wide.ended files.numbers.wide.Reads.Learnt
@@ -37,6 +39,7 @@ pub record Files : Type 0 where
   pub binary-in-binary : OneAnswer files.binary.in_binary.ended files.binary.in_binary.Reads.Learnt
   pub binary-read : OneAnswer files.binary.read.ended files.binary.read.Reads.Learnt
   pub binary-update : OneAnswer files.binary.update.ended files.binary.update.Reads.Learnt
+  pub record-bytes-used : OneAnswer files.record.bytes_used.ended files.record.bytes_used.Reads.Learnt
   pub record-sound-held : OneAnswer files.record.sound_held.ended files.record.sound_held.Reads.Learnt
   pub record-locate : OneAnswer files.record.locate.ended files.record.locate.Reads.Learnt
   pub record-grows : OneAnswer files.record.grows.ended files.record.grows.Reads.Learnt

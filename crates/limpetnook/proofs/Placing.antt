@@ -27,7 +27,8 @@ use Rattle.rules.proofs.Answer as R
 use Rattle.rules.proofs.Answer.Laws as R′
 use Rattle.card.specs.Carried.{Commands}
 use Rattle.card.specs.Ordered.{IsIssued}
-use Rattle.limpetnook.specs.Place.{Placed, PlacesIssue, PlacesCommand}
+use Rattle.texts.specs.Calls.{Wrote, Got, Writes, Reads}
+use Rattle.limpetnook.specs.Place.{Placed, PlacesIssue, PlacesCommand, PlacesText, PlacesCard}
 
 -- a card's machine value
 abbrev pub mach : Card → Val
@@ -61,11 +62,17 @@ module _ {M : Type 1} {𝓤 : URA M} {H : Heap 𝓤} {A : Atoms 𝓤} {K : Type 
   opens-card t z h b o k = opens t z C.the-row {h = h} b o (λ vs. spelt t C.the-row (Is C.the-row) (shows 𝓤 H A C.the-row) vals (LL.tells C.the-type C′.the-laws) fullShare h vs b o $
       move t (1 ∷ []) $ peeks t C.the-row (Is C.the-row) (shows 𝓤 H A C.the-row) h (vals h) (λ is. move t (1 ∷ 0 ∷ []) $ k is))
 
-  -- and closed, with the answer's card in its cell
+  -- and closed, with a card in its cell
+  pub closes-with : K → Soaks G → {κ : Lft} {q : Share} {u w : Gv} (h : Card) → Is C.the-row h (vals h) → {γ : GName} (b o : ℕ)
+      → Step K W (‵ (fobs γ (C.the-row .coded .code h)) ∷ ‵ (fbor κ (Body (mem C.the-row) b o γ)) ∷ ‵ (flft κ q) ∷ Γ) G
+      (‵ (cellAt fullShare (C.the-row .mir) (vals h) b o) ∷ ‵ (fobor κ q (Body (mem C.the-row) b o γ)) ∷ ‵ (fobs γ u) ∷ ‵ (fauth γ w) ∷ Γ) G
+  closes-with t z h is b o = step (λ s. owned t C.the-row (Is C.the-row) (LL.makes C.the-type C′.the-plain 𝓤 H A) h (vals h) is $ move t (1 ∷ 0 ∷ []) $ closes t z C.the-row h (vals h) b o $ s)
+
+  -- the answer's
   pub closes-card : K → Soaks G → {κ : Lft} {q : Share} {u w : Gv} (r : Answer) (v : Val) → Is R.the-row r (v ∷ []) → {γ : GName} (b o : ℕ)
       → Step K W (‵ (fobs γ (C.the-row .coded .code (r .card))) ∷ ‵ (fbor κ (Body (mem C.the-row) b o γ)) ∷ ‵ (flft κ q) ∷ Γ) G
       (‵ (cellAt fullShare (C.the-row .mir) (vals (r .card)) b o) ∷ ‵ (fobor κ q (Body (mem C.the-row) b o γ)) ∷ ‵ (fobs γ u) ∷ ‵ (fauth γ w) ∷ Γ) G
-  closes-card t z r v is b o = step (λ s. owned t C.the-row (Is C.the-row) (LL.makes C.the-type C′.the-plain 𝓤 H A) (r .card) (vals (r .card)) (card-in r v is) $ move t (1 ∷ 0 ∷ []) $ closes t z C.the-row (r .card) (vals (r .card)) b o $ s)
+  closes-card t z r v is b o = closes-with t z (r .card) (card-in r v is) b o
 
 -- an answer that was stored
 pub placed : (a r : Answer) → r ≡ a → Placed a (r .outcome) (r .card)
@@ -81,3 +88,14 @@ places-command d r ys zs e = record {
   reply-is = e .reply-is;
   count-is = ap (λ (z : Answer). z .n) (e .answer-is);
 }
+
+pub places-text : (c : Card) (w : Wrote) (r : Answer) (ys : List ℕ) → Writes w r ys → PlacesText c w (r .outcome) c ys (r .n)
+places-text c w r ys e = record {
+  outcome-is = ap (λ (z : Answer). z .outcome) (e .answer-is);
+  card-is = refl;
+  text-is = e .left-is;
+  count-is = ap (λ (z : Answer). z .n) (e .answer-is);
+}
+
+pub places-card : (g : Got) (r : Answer) (ys : List ℕ) → Reads g r ys → PlacesCard g (r .outcome) (r .card) ys
+places-card g r ys e = record { placed = placed (g .answer) r (e .answer-is); area-is = e .left-is }

@@ -7,6 +7,7 @@ use Rattle.rules.specs.declared.Card.{Card}
 use Rattle.rules.specs.declared.Answer.{Answer}
 use Rattle.rules.specs.Calls.{Done, Issued}
 use Rattle.rules.proofs.Card.Laws.{mir}
+use Rattle.texts.specs.Calls.{Wrote, Got}
 
 -- the answer's outcome is returned, and its card stands where the card was lent
 pub record Placed (a : Answer) (r : ℕ) (card′ : Card) : Type 0 where
@@ -25,10 +26,22 @@ pub record PlacesCommand (d : Done) (r : ℕ) (card′ : Card) (area′ reply′
   pub reply-is : reply′ ≡ d .reply
   pub count-is : count′ ≡ d .answer .n
 
+-- the writer returns its outcome and leaves the card as it was; the text buffer, and how many bytes of it are the text
+pub record PlacesText (card : Card) (w : Wrote) (r : ℕ) (card′ : Card) (text′ : List ℕ) (count′ : ℕ) : Type 0 where
+  pub outcome-is : r ≡ w .answer .outcome
+  pub card-is : card′ ≡ card
+  pub text-is : text′ ≡ w .out
+  pub count-is : count′ ≡ w .answer .n
+
+-- the reader's outcome and card, with the area that it leaves
+pub record PlacesCard (g : Got) (r : ℕ) (card′ : Card) (area′ : List ℕ) : Type 0 where
+  pub placed : Placed (g .answer) r card′
+  pub area-is : area′ ≡ g .area
+
 -- the bytes that a card takes, as C lays a struct out
 abbrev pub cardSize : ℕ
 cardSize = size mir
 
--- the number that tells versions of the card apart: 1 for document 01, and one more for each landing since that changed the card or the cipher
+-- the number that tells versions of the card apart: 1 for document 01, and one more for each landing since that changed the card, the cipher or the calls
 abbrev pub version : ℕ
-version = 5
+version = 6

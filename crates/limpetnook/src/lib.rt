@@ -4,12 +4,15 @@ ghost use mathlib.Core.Path.{_≡_};
 ghost use Rattle.rules.specs.Calls.{issue, command, reset};
 ghost use Rattle.cipher.specs.Call.{Enciphered};
 ghost use Rattle.card.specs.Ordered.{orderOf};
-ghost use Rattle.limpetnook.specs.Place.{Placed, PlacesIssue, PlacesCommand, cardSize, version};
+ghost use Rattle.texts.specs.Calls.{toText, fromText};
+ghost use Rattle.limpetnook.specs.Place.{Placed, PlacesIssue, PlacesCommand, PlacesText, PlacesCard, cardSize, version};
 use card::issue::issue;
 use card::issue::reset;
 use card::step::command;
 use cipher::encipher;
 use rules::Card;
+use texts::calls::from_text;
+use texts::calls::to_text;
 
 // No function of the language says how large a value is; the contract does.
 const CARD_SIZE: usize = 255;
@@ -27,7 +30,7 @@ pub extern "C" fn limpet_card_size() -> usize
 pub extern "C" fn limpet_version() -> u32
     ensures { λ r. ⌜ r ≡ version ⌝ }
 {
-    5
+    6
 }
 
 // One block of AES-128.
@@ -90,4 +93,29 @@ pub extern "C" fn limpet_reset(card: &mut Card, area: &[u8]) -> u8
     let cleared = reset(*card, area);
     *card = cleared.card;
     cleared.outcome
+}
+
+// The card is only read. How many bytes of the buffer are the text is stored through count.
+#[no_mangle]
+pub extern "C" fn limpet_to_text(
+    card: &mut Card,
+    area: &[u8],
+    text: &mut [u8],
+    count: &mut usize,
+) -> u8
+    ensures { λ r. ⌜ PlacesText (now (card .entry)) (toText (now (card .entry)) (now (area .entry)) (now (text .entry))) r (now (card .exit)) (now (text .exit)) (now (count .exit)) ⌝ }
+{
+    let done = to_text(*card, area, text);
+    *count = done.n;
+    done.outcome
+}
+
+// The card before it does not matter; a text that is refused leaves a blank one.
+#[no_mangle]
+pub extern "C" fn limpet_from_text(card: &mut Card, area: &mut [u8], text: &[u8]) -> u8
+    ensures { λ r. ⌜ PlacesCard (fromText (now (text .entry)) (now (area .entry))) r (now (card .exit)) (now (area .exit)) ⌝ }
+{
+    let read = from_text(area, text);
+    *card = read.card;
+    read.outcome
 }

@@ -1,0 +1,371 @@
+#include "plain_text.h"
+
+#include <stdbool.h>
+#include <string.h>
+
+#include "layout.h"
+
+enum { LINE_BYTES = 32, FID_BYTES = 2, CREATE_BYTES = 5 };
+
+/* What a file's line counts: the bytes used of type 2C, the records held of the others. */
+static unsigned counted(const struct file *f)
+{
+    return f->type == 0x2C ? used_bytes(f) : f->held;
+}
+
+/* ------------------------------------------------------------ the writer */
+
+static size_t decimal_length(unsigned number)
+{
+    size_t length = 1;
+
+    while (number >= 10) {
+        number /= 10;
+        length++;
+    }
+    return length;
+}
+
+static size_t credential_length(const struct credential *x)
+{
+    return 2u * x->length + 1 + decimal_length(x->tries.limit) + 1 + decimal_length(x->tries.left) + 1;
+}
+
+static size_t session_length(const struct session *s)
+{
+    return 2 * CREDENTIALS + (s->current != 0 ? 2 * FID_BYTES : 1) + 1 + (s->length != 0 ? 2u * s->length : 1) + 1;
+}
+
+static size_t file_length(const struct file *f)
+{
+    size_t size = file_size(f);
+
+    return 2 * FID_BYTES + 1 + 2 * CREATE_BYTES + 1 + decimal_length(counted(f)) + 1 + decimal_length(f->newest) + 1
+        + 2 * size + (size + LINE_BYTES - 1) / LINE_BYTES;
+}
+
+/* Counted first, since nothing may be written where the text does not fit. */
+static size_t card_length(const struct layout *c)
+{
+    size_t length = session_length(&c->session);
+
+    for (size_t i = 0; i < CREDENTIALS; i++)
+        length += credential_length(&c->credentials[i]);
+    for (size_t i = 0; i < c->directory.count; i++)
+        length += file_length(&c->directory.files[i]);
+    return length;
+}
+
+/* Each of these writes behind what is there and returns where it ends. */
+static uint8_t *put(uint8_t *to, char byte)
+{
+    *to = (uint8_t)byte;
+    return to + 1;
+}
+
+static uint8_t *put_hex(uint8_t *to, const uint8_t *bytes, size_t count)
+{
+    static const char digits[] = "0123456789ABCDEF";
+
+    for (size_t i = 0; i < count; i++) {
+        to = put(to, digits[bytes[i] >> 4]);
+        to = put(to, digits[bytes[i] & 15]);
+    }
+    return to;
+}
+
+static uint8_t *put_decimal(uint8_t *to, unsigned number)
+{
+    size_t length = decimal_length(number);
+
+    for (size_t i = length; i > 0; i--) {
+        to[i - 1] = (uint8_t)('0' + number % 10);
+        number /= 10;
+    }
+    return to + length;
+}
+
+static uint8_t *put_credential(uint8_t *to, const struct credential *x)
+{
+    to = put_hex(to, x->value, x->length);
+    to = put(to, '\t');
+    to = put_decimal(to, x->tries.limit);
+    to = put(to, '\t');
+    to = put_decimal(to, x->tries.left);
+    return put(to, '\n');
+}
+
+static uint8_t *put_session(uint8_t *to, const struct layout *c)
+{
+    const struct session *s = &c->session;
+
+    for (size_t i = 0; i < CREDENTIALS; i++) {
+        to = put(to, s->rights[i] != 0 ? '1' : '0');
+        to = put(to, '\t');
+    }
+    if (s->current != 0) {
+        const struct file *f = &c->directory.files[s->current - 1];
+        const uint8_t fid[FID_BYTES] = { f->fid1, f->fid2 };
+        to = put_hex(to, fid, sizeof fid);
+    } else {
+        to = put(to, '-');
+    }
+    to = put(to, '\t');
+    to = s->length != 0 ? put_hex(to, s->challenge, s->length) : put(to, '-');
+    return put(to, '\n');
+}
+
+static uint8_t *put_file(uint8_t *to, const struct file *f, const uint8_t *extent)
+{
+    const uint8_t fid[FID_BYTES] = { f->fid1, f->fid2 };
+    const uint8_t created[CREATE_BYTES] = { f->type, f->size1, f->size2, f->read, f->write };
+    size_t size = file_size(f);
+
+    to = put_hex(to, fid, sizeof fid);
+    to = put(to, '\t');
+    to = put_hex(to, created, sizeof created);
+    to = put(to, '\t');
+    to = put_decimal(to, counted(f));
+    to = put(to, '\t');
+    to = put_decimal(to, f->newest);
+    to = put(to, '\n');
+    for (size_t at = 0; at < size; at += LINE_BYTES) {
+        size_t left = size - at;
+        to = put_hex(to, extent + at, left < LINE_BYTES ? left : LINE_BYTES);
+        to = put(to, '\n');
+    }
+    return to;
+}
+
+static void put_card(uint8_t *to, const struct layout *c, const uint8_t *area)
+{
+    for (size_t i = 0; i < CREDENTIALS; i++)
+        to = put_credential(to, &c->credentials[i]);
+    to = put_session(to, c);
+    for (size_t i = 0; i < c->directory.count; i++) {
+        const struct file *f = &c->directory.files[i];
+        to = put_file(to, f, area);
+        area += file_size(f);
+    }
+}
+
+uint8_t plain_to_text(const struct limpet_card *card, const uint8_t *area, size_t area_len,
+                      uint8_t *text, size_t text_len, size_t *text_count)
+{
+    struct layout c;
+
+    *text_count = 0;
+    if (area_len != LIMPET_AREA_SIZE)
+        return LIMPET_BAD_AREA;
+    memcpy(&c, card, sizeof c);
+    if (!is_sound((const uint8_t *)&c, area))
+        return LIMPET_UNSOUND;
+    size_t length = card_length(&c);
+    if (length > text_len)
+        return LIMPET_SHORT_TEXT;
+    put_card(text, &c, area);
+    *text_count = length;
+    return LIMPET_OK;
+}
+
+/* ------------------------------------------------------------ the reader */
+
+/* The text, and how many bytes of it were taken. */
+struct input {
+    const uint8_t *text;
+    size_t length, at;
+};
+
+/* The byte to be taken next, or 0 at the end: no line has a byte 0. */
+static uint8_t next(const struct input *in)
+{
+    return in->at < in->length ? in->text[in->at] : 0;
+}
+
+/* Each of these takes what is asked of it, or says false where something else stands there. */
+static bool take(struct input *in, char byte)
+{
+    if (next(in) != (uint8_t)byte)
+        return false;
+    in->at++;
+    return true;
+}
+
+/* -1 where the byte is no upper-case hex digit. */
+static int digit_value(uint8_t byte)
+{
+    static const int8_t values['F' - '0' + 1] = {
+        0, 1, 2, 3, 4, 5, 6, 7, 8, 9, -1, -1, -1, -1, -1, -1, -1, 10, 11, 12, 13, 14, 15
+    };
+
+    return '0' <= byte && byte <= 'F' ? values[byte - '0'] : -1;
+}
+
+static bool take_hex(struct input *in, uint8_t *bytes, size_t count)
+{
+    if (in->length - in->at < 2 * count)
+        return false;
+    for (size_t i = 0; i < count; i++) {
+        int high = digit_value(in->text[in->at]), low = digit_value(in->text[in->at + 1]);
+        if (high < 0 || low < 0)
+            return false;
+        bytes[i] = (uint8_t)(16 * high + low);
+        in->at += 2;
+    }
+    return true;
+}
+
+/* As many bytes as stand there, up to that room. */
+static bool take_value(struct input *in, uint8_t *bytes, size_t room, uint8_t *length)
+{
+    for (*length = 0; *length < room && digit_value(next(in)) >= 0; ++*length)
+        if (!take_hex(in, &bytes[*length], 1))
+            return false;
+    return *length > 0;
+}
+
+/* 0 to that number, without leading zeros. */
+static bool take_decimal(struct input *in, unsigned most, unsigned *number)
+{
+    size_t first = in->at;
+
+    for (*number = 0; '0' <= next(in) && next(in) <= '9'; in->at++) {
+        *number = 10 * *number + (next(in) - '0');
+        if (*number > most)
+            return false;
+    }
+    return in->at == first + 1 || (in->at > first && in->text[first] != '0');
+}
+
+static bool take_small(struct input *in, uint8_t *number)
+{
+    unsigned value;
+
+    if (!take_decimal(in, UINT8_MAX, &value))
+        return false;
+    *number = (uint8_t)value;
+    return true;
+}
+
+static bool take_credential(struct input *in, struct credential *x)
+{
+    return take_value(in, x->value, VALUE_ROOM, &x->length) && take(in, '\t')
+        && take_small(in, &x->tries.limit) && take(in, '\t')
+        && take_small(in, &x->tries.left) && take(in, '\n');
+}
+
+/* The current file is known by its FID here; its place shows when the files are read. */
+struct current {
+    bool is_any;
+    uint8_t fid[FID_BYTES];
+};
+
+static bool take_right(struct input *in, uint8_t *right)
+{
+    *right = next(in) == '1';
+    return (take(in, '0') || take(in, '1')) && take(in, '\t');
+}
+
+static bool take_session(struct input *in, struct session *s, struct current *current)
+{
+    for (size_t i = 0; i < CREDENTIALS; i++)
+        if (!take_right(in, &s->rights[i]))
+            return false;
+    current->is_any = !take(in, '-');
+    return (!current->is_any || take_hex(in, current->fid, sizeof current->fid)) && take(in, '\t')
+        && (take(in, '-') || take_value(in, s->challenge, CHALLENGE_ROOM, &s->length)) && take(in, '\n');
+}
+
+static bool take_counted(struct input *in, struct file *f)
+{
+    unsigned used;
+
+    if (f->type != 0x2C)
+        return take_small(in, &f->held);
+    if (!take_decimal(in, LIMPET_AREA_SIZE, &used))
+        return false;
+    f->used1 = (uint8_t)(used >> 8);
+    f->used2 = (uint8_t)used;
+    return true;
+}
+
+static bool take_file_line(struct input *in, struct file *f)
+{
+    uint8_t fid[FID_BYTES], created[CREATE_BYTES];
+
+    if (!take_hex(in, fid, sizeof fid) || !take(in, '\t') || !take_hex(in, created, sizeof created) || !take(in, '\t'))
+        return false;
+    *f = (struct file){ .fid1 = fid[0], .fid2 = fid[1], .type = created[0], .size1 = created[1], .size2 = created[2],
+                        .read = created[3], .write = created[4] };
+    return take_counted(in, f) && take(in, '\t') && take_small(in, &f->newest) && take(in, '\n');
+}
+
+static bool take_contents(struct input *in, uint8_t *extent, size_t size)
+{
+    for (size_t at = 0; at < size; at += LINE_BYTES) {
+        size_t left = size - at;
+        if (!take_hex(in, extent + at, left < LINE_BYTES ? left : LINE_BYTES) || !take(in, '\n'))
+            return false;
+    }
+    return true;
+}
+
+static bool take_files(struct input *in, struct directory *d, uint8_t *area)
+{
+    size_t taken = 0;
+
+    while (in->at < in->length) {
+        struct file *f = &d->files[d->count];
+        if (d->count == FILES || !take_file_line(in, f))
+            return false;
+        size_t size = file_size(f);
+        if (size == 0 || size > LIMPET_AREA_SIZE - taken || !take_contents(in, area + taken, size))
+            return false;
+        taken += size;
+        d->count++;
+    }
+    return true;
+}
+
+static bool find_current(struct layout *c, const struct current *current)
+{
+    if (!current->is_any)
+        return true;
+    for (uint8_t i = 0; i < c->directory.count; i++) {
+        const struct file *f = &c->directory.files[i];
+        if (f->fid1 == current->fid[0] && f->fid2 == current->fid[1]) {
+            c->session.current = (uint8_t)(i + 1);
+            return true;
+        }
+    }
+    return false;
+}
+
+static bool take_card(struct input *in, struct layout *c, uint8_t *area)
+{
+    struct current current;
+
+    for (size_t i = 0; i < CREDENTIALS; i++)
+        if (!take_credential(in, &c->credentials[i]))
+            return false;
+    return take_session(in, &c->session, &current) && take_files(in, &c->directory, area) && find_current(c, &current)
+        && is_sound((const uint8_t *)c, area);
+}
+
+/* The text is read into a card and an area of its own: the caller's area has to stay where the last line is bad. */
+uint8_t plain_from_text(struct limpet_card *card, uint8_t *area, size_t area_len,
+                        const uint8_t *text, size_t text_len)
+{
+    struct input in = { text, text_len, 0 };
+    struct layout c = { 0 };
+    uint8_t contents[LIMPET_AREA_SIZE] = { 0 };
+
+    memset((uint8_t *)card, 0, sizeof c);
+    if (area_len != LIMPET_AREA_SIZE)
+        return LIMPET_BAD_AREA;
+    if (!take_card(&in, &c, contents))
+        return LIMPET_BAD_TEXT;
+    memcpy((uint8_t *)card, &c, sizeof c);
+    memcpy(area, contents, sizeof contents);
+    return LIMPET_OK;
+}

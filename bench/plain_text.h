@@ -1,0 +1,20 @@
+/*
+ * A card written as lines and read again (request R-4), in plain C: for
+ * bench/texts and tests/fuzz-texts to hold the library's two calls against.
+ * The parameters and the outcomes are those of limpet_to_text and limpet_from_text.
+ */
+#ifndef PLAIN_TEXT_H
+#define PLAIN_TEXT_H
+
+#include <stddef.h>
+#include <stdint.h>
+
+#include "limpetnook.h"
+
+uint8_t plain_to_text(const struct limpet_card *card, const uint8_t *area, size_t area_len,
+                      uint8_t *text, size_t text_len, size_t *text_count);
+
+uint8_t plain_from_text(struct limpet_card *card, uint8_t *area, size_t area_len,
+                        const uint8_t *text, size_t text_len);
+
+#endif

@@ -1,0 +1,2 @@
+-- Bytes and numbers as they are written in lines.
+pub mod Digits

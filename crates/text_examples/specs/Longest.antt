@@ -1,0 +1,33 @@
+-- A sound card with the longest text, 8,886 bytes: sixteen cyclic files that fill the area, whose counts have three digits.
+use Prim.Native.Nat.{ℕ, zero, suc}
+use mathlib.Core.Bool.{_&&_}
+use mathlib.Core.List.{List, [], _∷_, _++_}
+use lib.Dec.{eqb}
+use lib.ListN.{length}
+use Rattle.files.specs.declared.File.{File}
+use Rattle.files.specs.State.{newFile, withNewest}
+use Rattle.rules.specs.declared.Card.{Card}
+use Rattle.rules.specs.Sound.{sound}
+use Rattle.texts.specs.Text.{text}
+use Rattle.texts.specs.Calls.{toText}
+use Rattle.text_examples.specs.Bytes.{hex}
+use Rattle.text_examples.specs.Table.{Row, unwritten, swept, filler}
+use Rattle.text_examples.specs.Cards.{credential, pin, session, card, told, key}
+
+-- so many files of 129 records of 2 bytes, of SFI n down to 1
+abbrev pub files-of-129 : ℕ → List File
+files-of-129 zero = []
+files-of-129 (suc n) = withNewest (newFile 0xA1 (suc n) 0x2E 129 2 0x40 0x01) 129 128 ∷ files-of-129 n
+
+abbrev pub longest-card : Card
+longest-card =
+    card (credential key 128 128) (pin "9876543210987654" 128 128) (pin "0123456789012345" 128 128)
+    (session 1 1 1 16 (hex 0x1_00112233445566778899AABBCCDDEEFF))
+    (files-of-129 15 ++ (withNewest (newFile 0xA1 0x10 0x2E 113 2 0x40 0x01) 113 112 ∷ []))
+
+abbrev pub longest-text : List Row
+longest-text =
+    swept 1 (λ o. sound longest-card told && eqb (length (text longest-card told)) 8886)
+    ∷ swept 1 (λ o. let w = toText longest-card told (filler 8886) in eqb (w .answer .outcome) 0 && eqb (w .answer .n) 8886)
+    ∷ unwritten longest-card told 8885 10
+    ∷ []

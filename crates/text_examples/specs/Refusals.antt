@@ -1,0 +1,181 @@
+-- Refusals in their order, and what stays as it was.
+use Prim.Native.Nat.{ℕ, _+_, _*_}
+use Prim.Native.String.{String}
+use mathlib.Core.List.{List, [], _∷_, _++_}
+use lib.ListN.{drop}
+use Rattle.files.specs.State.{newFile, withUsed}
+use Rattle.rules.specs.declared.Card.{Card}
+use Rattle.rules.specs.State.{blankCard}
+use Rattle.texts.specs.Calls.{toText}
+use Rattle.text_examples.specs.Bytes.{lines}
+use Rattle.text_examples.specs.Table.{Row, unwritten, unread, swept, filler, writes}
+use Rattle.text_examples.specs.Cards.{session, told, holder}
+
+-- a card whose text has 89 bytes
+abbrev pub plain : Card
+plain = holder (session 1 1 1 0 []) []
+
+abbrev pub plain-text : List ℕ
+plain-text = lines ("000102030405060708090A0B0C0D0E0F\t128\t128" ∷ "3837363534333231\t5\t5" ∷ "313233343536\t3\t3" ∷ "1\t1\t1\t-\t-" ∷ [])
+
+-- one that is not sound: a right is kept as 2
+abbrev pub unsound : Card
+unsound = holder (session 2 1 1 0 []) []
+
+-- one that is sound with an area whose first byte is 02, and not with others
+abbrev pub noted : Card
+noted = holder (session 0 0 0 0 []) (withUsed (newFile 0xA1 0x03 0x2C 0 8 0x40 0x40) 3 ∷ [])
+
+-- 2 data area not 4,096 bytes; 4 state not sound; 10 text buffer too short
+abbrev pub writer-refuses : List Row
+writer-refuses =
+    unwritten plain [] 89 2
+    ∷ unwritten plain (filler 4095) 89 2
+    ∷ unwritten plain (filler 4097) 89 2
+    -- 2 before 4 and before 10
+    ∷ unwritten unsound (filler 4095) 89 2
+    ∷ unwritten plain (filler 4097) 88 2
+    ∷ unwritten unsound (filler 0) 0 2
+    -- 4 before 10
+    ∷ unwritten unsound (filler 4096) 8886 4
+    ∷ unwritten unsound (filler 4096) 0 4
+    ∷ unwritten blankCard (filler 4096) 8886 4
+    ∷ unwritten noted (filler 4096) 8886 4
+    ∷ unwritten noted (2 ∷ filler 4095) 10 10
+    -- buffers that are too short, by a byte and by more, and some that are not: bytes behind the text stay
+    ∷ swept 12 (λ n. writes (toText plain told (filler (8 * n))) 10 plain 0 (filler (8 * n)))
+    ∷ swept 20 (λ n. writes (toText plain told (filler (89 + n))) 0 plain 89 (plain-text ++ filler n))
+    ∷ []
+
+-- 2 data area not 4,096 bytes; 11 a text that is not the lines of a sound card
+abbrev pub reader-refuses : List Row
+reader-refuses =
+    unread plain-text 0 2
+    ∷ unread plain-text 4095 2
+    ∷ unread plain-text 4097 2
+    -- 2 before 11
+    ∷ unread [] 0 2
+    ∷ unread (drop 1 plain-text) 4095 2
+    ∷ unread [] 4096 11
+    ∷ unread (drop 1 plain-text) 4096 11
+    ∷ []
+
+abbrev pub device-line : String
+device-line = "000102030405060708090A0B0C0D0E0F\t128\t128"
+
+abbrev pub admin-line : String
+admin-line = "3837363534333231\t5\t5"
+
+abbrev pub user-line : String
+user-line = "313233343536\t3\t3"
+
+abbrev pub session-line : String
+session-line = "1\t1\t1\t-\t-"
+
+-- a text that is refused by 11
+abbrev pub bad : List String → Row
+bad ls = unread (lines ls) 4096 11
+
+-- as those of plain, but for one line
+abbrev pub bad-device : String → Row
+bad-device l = bad (l ∷ admin-line ∷ user-line ∷ session-line ∷ [])
+
+abbrev pub bad-user : String → Row
+bad-user l = bad (device-line ∷ admin-line ∷ l ∷ session-line ∷ [])
+
+abbrev pub bad-session : String → Row
+bad-session l = bad (device-line ∷ admin-line ∷ user-line ∷ l ∷ [])
+
+-- with lines behind them
+abbrev pub bad-files : List String → Row
+bad-files ls = bad (device-line ∷ admin-line ∷ user-line ∷ session-line ∷ ls)
+
+-- the form is kept, and the card is not sound
+abbrev pub unsound-texts : List Row
+unsound-texts =
+    -- a key of 15 and of 17 bytes; PINs of 5 and of 17 digits, and one with 3A
+    bad-device "000102030405060708090A0B0C0D0E\t128\t128"
+    ∷ bad-device "000102030405060708090A0B0C0D0E0F10\t128\t128"
+    ∷ bad-user "3132333435\t3\t3"
+    ∷ bad-user "3132333435363738393031323334353637\t3\t3"
+    ∷ bad-user "31323334353A\t3\t3"
+    -- limits of 0 and 129, and 259, which is 3 in a byte
+    ∷ bad-device "000102030405060708090A0B0C0D0E0F\t0\t0"
+    ∷ bad-device "000102030405060708090A0B0C0D0E0F\t129\t129"
+    ∷ bad-user "313233343536\t259\t259"
+    ∷ bad-user "313233343536\t65539\t65539"
+    -- tries over the limit, and a right that is held without all of them
+    ∷ bad-user "313233343536\t3\t4"
+    ∷ bad-user "313233343536\t3\t2"
+    -- a right of 2, and of 257
+    ∷ bad-session "2\t1\t1\t-\t-"
+    ∷ bad-session "1\t1\t257\t-\t-"
+    -- a current file that is not there, and challenges of 3, 5 and 17 bytes
+    ∷ bad-session "1\t1\t1\tA101\t-"
+    ∷ bad-session "1\t1\t1\t-\t001122"
+    ∷ bad-session "1\t1\t1\t-\t0011223344"
+    ∷ bad-session "1\t1\t1\t-\t0011223344556677889900112233445566"
+    -- SFI 0 and 31, and the same one twice
+    ∷ bad-files ("A100\t2800010000\t0\t0" ∷ "00" ∷ [])
+    ∷ bad-files ("A11F\t2800010000\t0\t0" ∷ "00" ∷ [])
+    ∷ bad-files ("A101\t2800010000\t0\t0" ∷ "00" ∷ "B201\t2800010000\t0\t0" ∷ "00" ∷ [])
+    -- type 29, a size of 0, one record, a right of 02
+    ∷ bad-files ("A101\t2900010000\t0\t0" ∷ "00" ∷ [])
+    ∷ bad-files ("A101\t2800000000\t0\t0" ∷ [])
+    ∷ bad-files ("A101\t2A01010000\t0\t0" ∷ "00" ∷ [])
+    ∷ bad-files ("A101\t2800010200\t0\t0" ∷ "00" ∷ [])
+    -- records held in a binary file, more of them than there are places, and more used bytes than there are
+    ∷ bad-files ("A101\t2800010000\t1\t0" ∷ "00" ∷ [])
+    ∷ bad-files ("A101\t2E02010000\t3\t1" ∷ "0000" ∷ [])
+    ∷ bad-files ("A101\t2E02010000\t2\t2" ∷ "0000" ∷ [])
+    ∷ bad-files ("A101\t2C00020000\t3\t0" ∷ "0200" ∷ [])
+    -- lengths that do not part the used bytes
+    ∷ bad-files ("A101\t2C00040000\t3\t0" ∷ "03000000" ∷ [])
+    ∷ bad-files ("A101\t2C00040000\t3\t0" ∷ "01000000" ∷ [])
+    ∷ []
+
+-- the card would be sound, and the form is another
+abbrev pub other-forms : List Row
+other-forms =
+    -- lower case, a leading zero, a blank, CR before a newline, a sign, another order of fields, a field more and a field less
+    bad-device "000102030405060708090a0b0c0d0e0f\t128\t128"
+    ∷ bad-device "000102030405060708090A0B0C0D0E0F\t0128\t128"
+    ∷ bad-device "000102030405060708090A0B0C0D0E0F\t128\t128 "
+    ∷ bad-device "000102030405060708090A0B0C0D0E0F\t128\t128\r"
+    ∷ bad-device "000102030405060708090A0B0C0D0E0F\t128\t+128"
+    ∷ bad-device "000102030405060708090A0B0C0D0E0F 128 128"
+    ∷ bad-device "128\t128\t000102030405060708090A0B0C0D0E0F"
+    ∷ bad-user "313233343536\t3\t3\t"
+    ∷ bad-user "313233343536\t3"
+    ∷ bad-user "313233343536\t3\t3\n"
+    ∷ bad-user "123456\t3\t3"
+    -- rights without tabs or as a byte, none as 0, 00 or nothing
+    ∷ bad-session "111\t-\t-"
+    ∷ bad-session "01\t01\t01\t-\t-"
+    ∷ bad-session "1\t1\t1\t0\t-"
+    ∷ bad-session "1\t1\t1\t0000\t-"
+    ∷ bad-session "1\t1\t1\t-\t00"
+    ∷ bad-session "1\t1\t1\t-\t"
+    ∷ bad-session "1\t1\t1\t\t-"
+    ∷ bad-session "1\t1\t1\t-\t0"
+    -- lines in another order, one twice, one left out, and an empty one
+    ∷ bad (admin-line ∷ device-line ∷ user-line ∷ session-line ∷ [])
+    ∷ bad (session-line ∷ device-line ∷ admin-line ∷ user-line ∷ [])
+    ∷ bad (device-line ∷ admin-line ∷ user-line ∷ user-line ∷ session-line ∷ [])
+    ∷ bad (device-line ∷ admin-line ∷ session-line ∷ [])
+    ∷ bad (device-line ∷ admin-line ∷ user-line ∷ [])
+    ∷ bad (device-line ∷ "" ∷ admin-line ∷ user-line ∷ session-line ∷ [])
+    ∷ bad-files ("" ∷ [])
+    -- counts with a leading zero, in hex, and a place with a sign
+    ∷ bad-files ("A101\t2E0C010000\t012\t0" ∷ "000000000000000000000000" ∷ [])
+    ∷ bad-files ("A101\t2E0C010000\t0C\t0" ∷ "000000000000000000000000" ∷ [])
+    ∷ bad-files ("A101\t2E0C010000\t12\t-1" ∷ "000000000000000000000000" ∷ [])
+    -- contents on the file's line, in lines of one byte, with a line that is empty, one byte more and one less, and without their line
+    ∷ bad-files ("A101\t2800020000\t0\t0\tABCD" ∷ [])
+    ∷ bad-files ("A101\t2800020000\t0\t0" ∷ "AB" ∷ "CD" ∷ [])
+    ∷ bad-files ("A101\t2800020000\t0\t0" ∷ "ABCD" ∷ "" ∷ [])
+    ∷ bad-files ("A101\t2800020000\t0\t0" ∷ "ABCDEF" ∷ [])
+    ∷ bad-files ("A101\t2800020000\t0\t0" ∷ "AB" ∷ [])
+    ∷ bad-files ("A101\t2800020000\t0\t0" ∷ [])
+    ∷ bad-files ("A101\t2800020000\t0\t0" ∷ "ab" ∷ [])
+    ∷ []

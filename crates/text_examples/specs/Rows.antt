@@ -1,0 +1,26 @@
+-- The table: texts worked out by hand, then whole ranges, where a rule could be wrong between two of them, and then the refusals.
+use mathlib.Core.Bool.{true}
+use mathlib.Core.List.{List, [], _∷_}
+use mathlib.Core.Path.{_≡_}
+use Rattle.text_examples.specs.Table.{Row, allHold}
+use Rattle.text_examples.specs.Examples.{documented, states, sizes, counts}
+use Rattle.text_examples.specs.FieldRanges.{every-number, every-byte, every-digit, credentials-written, sessions-written}
+use Rattle.text_examples.specs.FileRanges.{file-lines, line-counts, contents-written, files-written}
+use Rattle.text_examples.specs.Longest.{longest-text}
+use Rattle.text_examples.specs.Refusals.{writer-refuses, reader-refuses, unsound-texts, other-forms}
+use Rattle.text_examples.specs.Spoilt.{credentials-spoilt, session-spoilt, file-spoilt, cut-and-more}
+
+abbrev pub table : List (List Row)
+table =
+    documented ∷ states ∷ sizes ∷ counts
+    ∷ every-number ∷ every-byte ∷ every-digit ∷ credentials-written ∷ sessions-written
+    ∷ file-lines ∷ line-counts ∷ contents-written ∷ files-written
+    ∷ longest-text
+    ∷ writer-refuses ∷ reader-refuses ∷ unsound-texts ∷ other-forms
+    ∷ credentials-spoilt ∷ session-spoilt ∷ file-spoilt ∷ cut-and-more
+    ∷ []
+
+-- every row of every group holds
+abbrev pub EachHolds : List (List Row) → Type 0
+EachHolds [] = Unit {0}
+EachHolds (rows ∷ more) = (allHold rows ≡ true) × EachHolds more

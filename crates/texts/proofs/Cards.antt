@@ -1,0 +1,149 @@
+-- Credentials, session and files of a sound card, written and read back.
+-- Assumes nothing.
+use Prim.Native.Nat.{ℕ, zero, suc, _+_, _-_, _≤_, _<_}
+use mathlib.Core.Bool.{true}
+use mathlib.Core.List.{List, [], _∷_, _++_, map}
+use mathlib.Core.Path.{_≡_, refl, ap}
+use native.Mathlib.Omega.{arith}
+use lib.ListN.{length, take, drop, getD, replicate, take-append-drop}
+use lib.Seq.{length-take-le}
+use borrow.Author.Tests.{eqb-true}
+use Rattle.files.specs.declared.File.{File}
+use Rattle.files.specs.Words.{isZero}
+use Rattle.files.specs.Part.{over}
+use Rattle.files.specs.State.{newFile}
+use Rattle.files.proofs.Checks.{both}
+use Rattle.rules.specs.declared.Credential.{Credential}
+use Rattle.rules.specs.declared.Card.{Card}
+use Rattle.rules.specs.Words.{allOf, filled}
+use Rattle.rules.specs.State.{Which, device, admin, user, whiches, numberOf, howMany, rightKept, valueOf, challenge}
+use Rattle.texts.specs.Text.{line, credentialLine, fidBytes, currentFid, sessionLine, createBytes, heldOrUsed, fileLine}
+use Rattle.texts.specs.Reading.{skips, triesIn, credentialIn, currentIn, sessionIn, counted, fileIn}
+use Rattle.texts.specs.Laws.{Bytes, FileBytes}
+use Rattle.texts.proofs.Lines.{hex-first, number-first, small-first, skip-hex, skip-number, skip-last-hex, skip-last-number}
+
+-- bytes 00 past n, dropped and filled in again
+zero-tail : (n : ℕ) (d : List ℕ) (m : ℕ) → length d ≡ m → allOf isZero (drop n d) ≡ true → drop n (replicate m 0) ≡ drop n d
+unfolding allOf
+zero-tail zero [] m e h = rw (← e)
+zero-tail zero (x ∷ xs) zero e h = absurd (omega arith)
+zero-tail zero (x ∷ xs) (suc m) e h =
+    let k = both (isZero x) (allOf isZero xs) h in
+    rw (eqb-true x 0 (k .0)) (ap (λ (l : List ℕ). 0 ∷ l) (zero-tail zero xs m (omega arith) (k .1)))
+zero-tail (suc n) [] m e h = rw (← e)
+zero-tail (suc n) (x ∷ xs) zero e h = absurd (omega arith)
+zero-tail (suc n) (x ∷ xs) (suc m) e h = zero-tail n xs m (omega arith) h
+
+-- a value that is the first bytes of sixteen
+pub record Front (n : ℕ) (d : List ℕ) : Type 0 where
+  pub places : length d ≡ 16
+  pub few : n ≤ 16
+  pub tail : allOf isZero (drop n d) ≡ true
+  pub bytes : Bytes (take n d)
+
+module _ (n : ℕ) (d : List ℕ) (h : Front n d) where
+  pub front-length : length (take n d) ≡ n
+  front-length = length-take-le n d (omega (arith, h .places, h .few))
+
+  filled-front : filled (take n d) ≡ d
+  unfolding over
+  filled-front = rw (front-length, zero-tail n d 16 (h .places) (h .tail)) (take-append-drop n d)
+
+-- a credential's line
+module _ (x : Credential) (r : List ℕ) where
+  pub credential-end : skips 3 (credentialLine x ++ r) ≡ r
+  unfolding credentialLine
+  credential-end = rw (skip-hex (valueOf x), skip-number (x .tries .limit), skip-last-number (x .tries .left))
+
+  pub credential-back : Front (x .len) (x .value) → x .tries .limit < 256 → x .tries .left < 256 → credentialIn (credentialLine x ++ r) ≡ x
+  unfolding credentialLine credentialIn triesIn
+  credential-back f h k =
+      let len = front-length (x .len) (x .value) f in
+      rw (
+        hex-first 16 (valueOf x) _ r (omega (arith, len, f .few)) (f .bytes),
+        skip-hex (valueOf x),
+        skip-number (x .tries .limit),
+        small-first (x .tries .limit) _ r h,
+        small-first (x .tries .left) _ r k,
+        filled-front (x .len) (x .value) f,
+        len,
+      )
+
+-- a list of one thing for each credential
+pub each-kept : {A : Type 0} (xs : List A) (none : A) → length xs ≡ howMany → map (λ (w : Which). getD xs (numberOf w) none) whiches ≡ xs
+each-kept [] none h = absurd (omega arith)
+each-kept (a ∷ []) none h = absurd (omega arith)
+each-kept (a ∷ b ∷ []) none h = absurd (omega arith)
+each-kept (a ∷ b ∷ c ∷ []) none h = refl
+each-kept (a ∷ b ∷ c ∷ d ∷ more) none h = absurd (omega arith)
+
+-- the session's line
+module _ (c : Card) (r : List ℕ) where
+  abbrev now : List ℕ
+  now = currentFid (c .directory) (c .session .current)
+
+  pub session-end : skips (howMany + 2) (sessionLine c ++ r) ≡ r
+  unfolding sessionLine
+  session-end = rw (skip-number (rightKept c 0), skip-number (rightKept c 1), skip-number (rightKept c 2), skip-hex now, skip-last-hex (challenge c))
+
+  pub session-back : length (c .session .rights) ≡ howMany → ((w : Which) → rightKept c (numberOf w) < 256) → length now ≤ 2 → Bytes now
+      → currentIn (c .directory) now ≡ c .session .current → Front (c .session .len) (c .session .challenge) → sessionIn (c .directory) (sessionLine c ++ r) ≡ c .session
+  unfolding sessionLine sessionIn
+  session-back e low n b cur f =
+      let len = front-length (c .session .len) (c .session .challenge) f in
+      rw (
+        skip-number (rightKept c 0),
+        skip-number (rightKept c 1),
+        skip-number (rightKept c 2),
+        skip-hex now,
+        small-first (rightKept c 0) _ r (low device),
+        small-first (rightKept c 1) _ r (low admin),
+        small-first (rightKept c 2) _ r (low user),
+        hex-first 2 now _ r n b,
+        cur,
+        hex-first 16 (challenge c) _ r (omega (arith, len, f .few)) (f .bytes),
+        filled-front (c .session .len) (c .session .challenge) f,
+        len,
+      )
+      (ap (λ (l : List ℕ). record { rights = l; current = c .session .current; challenge = c .session .challenge; len = c .session .len }) (each-kept (c .session .rights) 0 e))
+
+-- a file's line
+pub bytes-nil : Bytes []
+bytes-nil i = omega arith
+
+pub bytes-cons : (x : ℕ) (xs : List ℕ) → x < 256 → Bytes xs → Bytes (x ∷ xs)
+bytes-cons x xs h k zero = h
+bytes-cons x xs h k (suc i) = k i
+
+pub fid-bytes : (f : File) → FileBytes f → Bytes (fidBytes f)
+fid-bytes f b = bytes-cons (f .fid1) (f .fid2 ∷ []) (b .fid1) (bytes-cons (f .fid2) [] (b .fid2) bytes-nil)
+
+create-bytes : (f : File) → FileBytes f → Bytes (createBytes f)
+create-bytes f b =
+    bytes-cons (f .kind) (f .size1 ∷ f .size2 ∷ f .read ∷ f .write ∷ []) (b .kind)
+    (bytes-cons (f .size1) (f .size2 ∷ f .read ∷ f .write ∷ []) (b .size1)
+    (bytes-cons (f .size2) (f .read ∷ f .write ∷ []) (b .size2) (bytes-cons (f .read) (f .write ∷ []) (b .read) (bytes-cons (f .write) [] (b .write) bytes-nil))))
+
+-- its counts say all that it keeps of its records
+pub record Told (f : File) : Type 0 where
+  pub bytes : FileBytes f
+  pub low : heldOrUsed f < 4097
+  pub back : counted (newFile (f .fid1) (f .fid2) (f .kind) (f .size1) (f .size2) (f .read) (f .write)) (heldOrUsed f) (f .newest) ≡ f
+
+pub file-back : (f : File) (r : List ℕ) → Told f → fileIn (fileLine f ++ r) ≡ f
+unfolding fileLine fileIn
+file-back f r t =
+    rw (
+      skip-hex (fidBytes f),
+      skip-hex (createBytes f),
+      skip-number (heldOrUsed f),
+      hex-first 2 (fidBytes f) _ r (omega arith) (fid-bytes f (t .bytes)),
+      hex-first 5 (createBytes f) _ r (omega arith) (create-bytes f (t .bytes)),
+      number-first (heldOrUsed f) _ r (t .low),
+      small-first (f .newest) _ r (t .bytes .newest),
+    )
+    (t .back)
+
+pub file-end : (f : File) (r : List ℕ) → skips 4 (fileLine f ++ r) ≡ r
+unfolding fileLine
+file-end f r = rw (skip-hex (fidBytes f), skip-hex (createBytes f), skip-number (heldOrUsed f), skip-last-number (f .newest))

@@ -1,0 +1,205 @@
+-- Texts drawn one behind the other.
+-- Assumes nothing.
+use Prim.Native.Nat.{ℕ, zero, suc, _+_, _-_, _/_, _%_, _≤_, _<_, min}
+use mathlib.Core.Bool.{Bool, true, false, cond}
+use mathlib.Core.List.{List, [], _∷_, _++_, append-assoc}
+use mathlib.Core.Path.{_≡_, refl, sym, ap, ap₂, _∙_}
+use mathlib.Core.Logic.{by-cases}
+use native.Mathlib.Decide.{decLe}
+use native.Mathlib.Numerals.{add-one, unary-clauses}
+use native.Mathlib.Omega.{arith}
+use lib.ListN.{length, set, getD, take, drop, length-drop, length-set, drop-of-length-le}
+use lib.Seq.{drop-cons, drop-drop, take-all}
+use native.Mathlib.Nat.{zero-add}
+use borrow.Author.Tests.{lt-ltb, le-ltb}
+use Rattle.digits.specs.Digits.{tab, newline, ended, lastDigit, places, decimal, hexDigit, hexByte, hexOf, orDash}
+use Rattle.files.specs.declared.File.{File}
+use Rattle.files.specs.declared.Directory.{Directory}
+use Rattle.files.specs.Words.{Bounded, isZero}
+use Rattle.files.specs.Part.{over}
+use Rattle.files.specs.State.{blankFile}
+use Rattle.files.specs.Types.{size}
+use Rattle.files.specs.Directory.{file, used}
+use Rattle.rules.specs.declared.Card.{Card}
+use Rattle.rules.specs.State.{credential}
+use Rattle.texts.specs.Text.{line, credentialLine, credentialLines, currentFid, sessionLine, fileLine, rows, linesFor, contents, filesText, text}
+use Rattle.texts.specs.Page.{Page, page, stroke, draw, Draws}
+use Rattle.texts.specs.Reading.{laid}
+use Rattle.texts.proofs.Contents.{laid-front}
+
+draw-append : (v w : List ℕ) (p : Page) → draw (v ++ w) p ≡ draw w (draw v p)
+unfolding draw
+draw-append [] w p = refl
+draw-append (b ∷ bs) w p = draw-append bs w (stroke b p)
+
+pub draw-none : (p : Page) → draw [] p ≡ p
+unfolding draw
+draw-none p = refl
+
+-- one text behind the other
+pub draws-then : (v w : List ℕ) (p q r : Page) → q ≡ draw v p → r ≡ draw w q → r ≡ draw (v ++ w) p
+draws-then v w p q r e f = f ∙ ap (draw w) e ∙ sym (draw-append v w p)
+
+-- a byte, where there is room and where there is none
+module _ (out : List ℕ) (at b : ℕ) where
+  pub put-done : at < length out → Draws (b ∷ []) out at (at + 1) (set out at b)
+  unfolding draw stroke
+  put-done h = rw (lt-ltb at (length out) h, add-one at)
+
+  pub put-none : length out ≤ at → Draws (b ∷ []) out at at out
+  unfolding draw stroke
+  put-none h = rw (le-ltb at (length out) h)
+
+-- a line, field by field
+pub line-more : (f g : List ℕ) (more : List (List ℕ)) (p q r : Page) → q ≡ draw (ended tab f) p → r ≡ draw (line (g ∷ more)) q → r ≡ draw (line (f ∷ g ∷ more)) p
+unfolding line
+line-more f g more p q r e k =
+    k ∙ ap (draw (line (g ∷ more))) (e ∙ draw-append f (tab ∷ []) p) ∙ sym (draw-append f (tab ∷ line (g ∷ more)) p ∙ draw-append (tab ∷ []) (line (g ∷ more)) (draw f p))
+
+pub line-last : (f : List ℕ) (p q : Page) → q ≡ draw (ended newline f) p → q ≡ draw (line (f ∷ [])) p
+unfolding line
+line-last f p q e = e
+
+-- bytes drawn in a loop
+pub all-more : (text : List ℕ) (i : ℕ) (p q : Page) → i < length text → q ≡ draw (getD text i 0 ∷ []) p → draw (drop (i + 1) text) q ≡ draw (drop i text) p
+all-more text i p q h e = rw (drop-cons text i 0 h, add-one i, e) (sym (draw-append (getD text i 0 ∷ []) (drop (suc i) text) p))
+
+pub all-end : (text : List ℕ) (i : ℕ) (p : Page) → length text ≤ i → draw (drop i text) p ≡ p
+unfolding draw
+all-end text i p h = rw (drop-of-length-le text h)
+
+pub hex-more : (bytes : List ℕ) (i x y : ℕ) (p q r : Page) → i < length bytes → x ≡ hexDigit (getD bytes i 0 / 16) → y ≡ hexDigit (getD bytes i 0 % 16)
+    → q ≡ draw (x ∷ []) p → r ≡ draw (y ∷ []) q → draw (hexOf (drop (i + 1) bytes)) r ≡ draw (hexOf (drop i bytes)) p
+unfolding hexOf
+hex-more bytes i x y p q r h hx hy e f =
+    let two : r ≡ draw (hexByte (getD bytes i 0)) p = draws-then (hexDigit (getD bytes i 0 / 16) ∷ []) (hexDigit (getD bytes i 0 % 16) ∷ []) p q r (e ∙ rw hx) (f ∙ rw hy) in
+    rw (drop-cons bytes i 0 h, add-one i, two) (sym (draw-append (hexByte (getD bytes i 0)) (hexOf (drop (suc i) bytes)) p))
+
+pub hex-end : (bytes : List ℕ) (i : ℕ) (p : Page) → length bytes ≤ i → draw (hexOf (drop i bytes)) p ≡ p
+unfolding hexOf draw
+hex-end bytes i p h = rw (drop-of-length-le bytes h)
+
+pub dash-none : (bytes : List ℕ) → length bytes ≡ 0 → 45 ∷ [] ≡ orDash bytes
+unfolding orDash
+dash-none [] h = refl
+dash-none (b ∷ bs) h = absurd (omega arith)
+
+pub dash-some : (bytes : List ℕ) → (length bytes ≡ 0 → ⊥) → hexOf bytes ≡ orDash bytes
+unfolding orDash
+dash-some [] h = absurd (h refl)
+dash-some (b ∷ bs) h = refl
+
+-- five digits without the leading zeros
+pub five-from : (n a b c d e m : ℕ) → a ≡ lastDigit (n / 10000) → b ≡ lastDigit (n / 1000) → c ≡ lastDigit (n / 100) → d ≡ lastDigit (n / 10) → e ≡ lastDigit n → m ≡ places n
+    → take (5 - (5 - m)) (drop (5 - m) (a ∷ b ∷ c ∷ d ∷ e ∷ [])) ≡ decimal n
+unfolding decimal
+five-from n a b c d e m ha hb hc hd he hm =
+    let l : length (drop (5 - m) (a ∷ b ∷ c ∷ d ∷ e ∷ [])) ≤ 5 - (5 - m) = rw (length-drop (5 - m) (a ∷ b ∷ c ∷ d ∷ e ∷ [])) (omega arith) in
+    take-all (5 - (5 - m)) (drop (5 - m) (a ∷ b ∷ c ∷ d ∷ e ∷ [])) l ∙ rw (ha, hb, hc, hd, he, hm)
+
+-- the first n bytes
+pub take-fewer : (n : ℕ) (s : List ℕ) → take (min n (length s)) s ≡ take n s
+take-fewer zero s = simp unary-clauses
+take-fewer (suc n) [] = simp unary-clauses
+take-fewer (suc n) (x ∷ xs) = simp unary-clauses (ap (λ (l : List ℕ). x ∷ l) (take-fewer n xs))
+
+pub front-as : (v w : List ℕ) (b : ℕ) (p q : Page) → q ≡ draw (ended b (orDash v)) p → v ≡ w → q ≡ draw (ended b (orDash w)) p
+front-as v w b p q e h = e ∙ ap (λ (x : List ℕ). draw (ended b (orDash x)) p) h
+
+pub number-as : (n m b : ℕ) (p q : Page) → q ≡ draw (ended b (decimal n)) p → n ≡ m → q ≡ draw (ended b (decimal m)) p
+number-as n m b p q e h = e ∙ ap (λ (x : ℕ). draw (ended b (decimal x)) p) h
+
+fid-front : (z : Bool) (a b n : ℕ) → n ≡ cond z 0 2 → take n (a ∷ b ∷ []) ≡ cond z [] (a ∷ b ∷ [])
+fid-front true a b n e = rw e
+fid-front false a b n e = rw e
+
+pub current-front : (d : Directory) (cur : ℕ) (f : File) (n : ℕ) → f ≡ file d cur → n ≡ cond (isZero cur) 0 2 → take n (f .fid1 ∷ f .fid2 ∷ []) ≡ currentFid d cur
+current-front d cur f n e h = rw e (fid-front (isZero cur) (file d cur .fid1) (file d cur .fid2) n h)
+
+-- n on, or the end: the same is left, and the same lies between
+pub drop-fewer : (at n : ℕ) (s : List ℕ) → drop (min (at + n) (length s)) s ≡ drop n (drop at s)
+drop-fewer at n s =
+    by-cases (decLe (at + n) (length s))
+    (λ h. let e : min (at + n) (length s) ≡ at + n = omega arith in rw e (sym (drop-drop n at s)))
+    (λ h. let e : min (at + n) (length s) ≡ length s = omega arith in
+    let l : length s ≤ length s = omega arith in
+    let m : length s ≤ at + n = omega arith in
+    rw e (drop-of-length-le s l ∙ sym (drop-drop n at s ∙ drop-of-length-le s m)))
+
+pub between : (at n to : ℕ) (s : List ℕ) → at ≤ length s → to ≡ min (at + n) (length s) → take (to - at) (drop at s) ≡ take n (drop at s)
+between at n to s h t =
+    let m : to - at ≡ min n (length (drop at s)) = simp length-drop (omega arith) in
+    ap (λ (x : ℕ). take x (drop at s)) m ∙ take-fewer n (drop at s)
+
+-- contents drawn in a loop
+lines-more : (n : ℕ) → 1 ≤ n → linesFor n ≡ suc (linesFor (n - 32))
+lines-more n h = omega arith
+
+pub rows-begin : (bytes : List ℕ) (p : Page) → draw (rows (linesFor (length bytes - 0)) bytes) p ≡ draw (contents bytes) p
+unfolding contents
+rows-begin bytes p = let e : length bytes - 0 ≡ length bytes = omega arith in rw e
+
+pub rows-more : (bytes : List ℕ) (i to : ℕ) (p q : Page) → i < length bytes → to ≡ min (i + 32) (length bytes) → q ≡ draw (ended newline (hexOf (take (to - i) (drop i bytes)))) p
+    → draw (rows (linesFor (length bytes - to)) (drop to bytes)) q ≡ draw (rows (linesFor (length bytes - i)) (drop i bytes)) p
+unfolding rows
+rows-more bytes i to p q h t e =
+    let k : linesFor (length bytes - i) ≡ suc (linesFor (length bytes - i - 32)) = lines-more (length bytes - i) (omega arith) in
+    let n : length bytes - to ≡ length bytes - i - 32 = omega arith in
+    let d : drop to bytes ≡ drop 32 (drop i bytes) = ap (λ (m : ℕ). drop m bytes) t ∙ drop-fewer i 32 bytes in
+    let w : take (to - i) (drop i bytes) ≡ take 32 (drop i bytes) = between i 32 to bytes (omega arith) t in
+    rw (k, n, d, e, w)
+    (sym (draw-append (ended newline (hexOf (take 32 (drop i bytes)))) (rows (linesFor (length bytes - i - 32)) (drop 32 (drop i bytes))) p))
+
+pub rows-end : (bytes rest : List ℕ) (i : ℕ) (p : Page) → length bytes ≤ i → draw (rows (linesFor (length bytes - i)) rest) p ≡ p
+unfolding rows draw
+rows-end bytes rest i p h = let k : linesFor (length bytes - i) ≡ 0 = omega arith in rw k
+
+-- files drawn in a loop: n files, i of them done, the area from an index on
+pub files-more : (files : List File) (area : List ℕ) (n i at to m : ℕ) (f : File) (p q : Page) → i < n → n ≤ length files → f ≡ getD files i blankFile → Bounded 65535 (size f) m
+    → to ≡ min (at + m) (length area) → q ≡ draw (fileLine f ++ contents (take (to - at) (drop at area))) p → at ≤ length area
+    → draw (filesText (take (n - (i + 1)) (drop (i + 1) files)) (drop to area)) q ≡ draw (filesText (take (n - i) (drop i files)) (drop at area)) p
+unfolding filesText
+files-more files area n i at to m f p q h l e s t g r =
+    let k : n - i ≡ suc (n - (i + 1)) = omega arith in
+    let t′ : to ≡ min (at + size f) (length area) = t ∙ ap (λ (x : ℕ). min (at + x) (length area)) (s .is) in
+    let d : drop to area ≡ drop (size f) (drop at area) = ap (λ (x : ℕ). drop x area) t′ ∙ drop-fewer at (size f) area in
+    let w : take (to - at) (drop at area) ≡ take (size f) (drop at area) = between at (size f) to area r t′ in
+    let c : drop i files ≡ f ∷ drop (i + 1) files = drop-cons files i blankFile (omega arith) ∙ ap₂ (λ (x : File) (y : ℕ). x ∷ drop y files) (sym e) (sym (add-one i)) in
+    rw (k, c, d, g, w)
+    (sym (ap (λ (x : List ℕ). draw x p) (sym (append-assoc (fileLine f) (contents (take (size f) (drop at area))) _))
+    ∙ draw-append (fileLine f ++ contents (take (size f) (drop at area))) _ p))
+
+pub files-end : (files : List File) (area : List ℕ) (n i : ℕ) (p : Page) → n ≤ i → draw (filesText (take (n - i) (drop i files)) area) p ≡ p
+unfolding filesText draw
+files-end files area n i p h = let k : n - i ≡ 0 = omega arith in rw k
+
+pub files-begin : (files : List File) (area : List ℕ) (n m : ℕ) (p : Page) → n ≡ m → draw (filesText (take (n - 0) files) area) p ≡ draw (filesText (take m files) area) p
+files-begin files area n m p e = let k : n - 0 ≡ m = omega arith in rw k
+
+-- the lines of a card
+pub credentials-drawn : (c : Card) (p p₁ p₂ p₃ : Page) → p₁ ≡ draw (credentialLine (credential c 0)) p → p₂ ≡ draw (credentialLine (credential c 1)) p₁ → p₃ ≡ draw (credentialLine (credential c 2)) p₂
+    → p₃ ≡ draw (credentialLines c) p
+unfolding credentialLines
+credentials-drawn c p p₁ p₂ p₃ e₁ e₂ e₃ =
+    draws-then (credentialLine (credential c 0)) (credentialLine (credential c 1) ++ credentialLine (credential c 2)) p p₁ p₃ e₁
+    (draws-then (credentialLine (credential c 1)) (credentialLine (credential c 2)) p₁ p₂ p₃ e₂ e₃)
+
+pub card-drawn : (c : Card) (area : List ℕ) (p p₁ p₂ p₃ : Page)
+    → p₁ ≡ draw (credentialLines c) p → p₂ ≡ draw (sessionLine c) p₁ → p₃ ≡ draw (filesText (take (used (c .directory)) (c .directory .files)) area) p₂ → p₃ ≡ draw (text c area) p
+unfolding text
+card-drawn c area p p₁ p₂ p₃ e₁ e₂ e₃ = draws-then (credentialLines c) _ p p₁ p₃ e₁ (draws-then (sessionLine c) _ p₁ p₂ p₃ e₂ e₃)
+
+-- with room for all of it
+draw-room : (w out : List ℕ) (at : ℕ) → at + length w ≤ length out → draw w (page out at) ≡ page (laid out at w) (at + length w)
+unfolding draw laid stroke
+draw-room [] out at h = let e : at + 0 ≡ at = omega arith in rw e
+draw-room (b ∷ bs) out at h =
+    let e : at + suc (length bs) ≡ suc at + length bs = omega arith in
+    let l : at < length out = omega arith in
+    rw (lt-ltb at (length out) l, e) (draw-room bs (set out at b) (suc at) (omega (arith, length-set out at b)))
+
+pub drawn-over : (w out left : List ℕ) (r : ℕ) → length w ≤ length out → Draws w out 0 r left → (r ≡ length w) × (left ≡ over w out)
+unfolding over
+drawn-over w out left r h d =
+    let q : page left r ≡ page (laid out 0 w) (0 + length w) = d ∙ draw-room w out 0 (omega arith) in
+    (ap (λ (x : Page). x .at) q ∙ zero-add (length w), ap (λ (x : Page). x .out) q ∙ laid-front out w h)

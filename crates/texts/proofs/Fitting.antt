@@ -1,0 +1,210 @@
+-- No sound card has a longer text than 8,886 bytes.
+-- Assumes nothing.
+use Prim.Native.Nat.{ℕ, zero, suc, _+_, _-_, _*_, _≤_, _<_}
+use mathlib.Core.Bool.{Bool, true, false, cond, _||_}
+use mathlib.Core.List.{List, [], _∷_, _++_}
+use mathlib.Core.Path.{_≡_, refl, _∙_}
+use native.Mathlib.Omega.{arith}
+use lib.Dec.{eqb, leb, ltb}
+use lib.ListN.{length, take, drop, length-take, length-drop, length-append}
+use borrow.Author.Tests.{leb-true, lt-ltb}
+use Rattle.digits.specs.Digits.{tab, newline, places, decimal, orDash}
+use Rattle.files.specs.declared.File.{File}
+use Rattle.files.specs.Words.{isZero}
+use Rattle.files.specs.Types.{isVariable, size}
+use Rattle.files.specs.Record.{bytesUsed}
+use Rattle.files.specs.Directory.{fileAt, startAt}
+use Rattle.files.specs.Sound.{soundFile}
+use Rattle.files.proofs.Checks.{each, split}
+use Rattle.files.proofs.Extents.{used-is}
+use Rattle.files.proofs.Kept.{filed}
+use Rattle.rules.specs.declared.Credential.{Credential}
+use Rattle.rules.specs.declared.Card.{Card}
+use Rattle.rules.specs.Words.{allOf}
+use Rattle.rules.specs.State.{Which, device, admin, user, numberOf, credential, rightKept, valueOf, challenge}
+use Rattle.rules.specs.Sound.{goodValue, soundValue, goodChallenge, soundChallenge, sound}
+use Rattle.rules.proofs.Good.{Good, numbered, sound-good, said-short}
+use Rattle.texts.specs.Text.{line, credentialLine, credentialLines, currentFid, sessionLine, fidBytes, createBytes, heldOrUsed, fileLine, contents, filesText, text}
+use Rattle.texts.specs.Laws.{TextFits}
+use Rattle.texts.proofs.Contents.{hexOf-length, contents-text, start-cons}
+use Rattle.texts.proofs.Counts.{few-places, no-places, used-few}
+use Rattle.texts.proofs.Trips.{current-short, place-sound, place-fits, tries-low}
+
+-- fields
+decimal-length : (n : ℕ) → length (decimal n) ≡ 5 - (5 - places n)
+unfolding decimal
+decimal-length n = length-drop (5 - places n) _
+
+three-places : (n : ℕ) → n < 1000 → length (decimal n) ≤ 3
+unfolding places
+three-places n h =
+    let p : places n ≤ 3 =
+    split (λ (x : ℕ). x ≤ 3) (ltb n 10) (λ _. omega arith)
+    (λ _. split (λ (x : ℕ). x ≤ 3) (ltb n 100) (λ _. omega arith) (λ _. rw (lt-ltb n 1000 h) (omega arith))) in
+    omega (arith, decimal-length n, p)
+
+four-places : (n : ℕ) → n < 10000 → length (decimal n) ≤ 4
+unfolding places
+four-places n h =
+    let p : places n ≤ 4 =
+    split (λ (x : ℕ). x ≤ 4) (ltb n 10) (λ _. omega arith)
+    (λ _. split (λ (x : ℕ). x ≤ 4) (ltb n 100) (λ _. omega arith)
+    (λ _. split (λ (x : ℕ). x ≤ 4) (ltb n 1000) (λ _. omega arith) (λ _. rw (lt-ltb n 10000 h) (omega arith)))) in
+    omega (arith, decimal-length n, p)
+
+one-place : (n : ℕ) → n < 10 → length (decimal n) ≤ 1
+unfolding places
+one-place n h = let p : places n ≡ 1 = rw (lt-ltb n 10 h) in omega (arith, decimal-length n, p)
+
+hex-length : (m : ℕ) (bs : List ℕ) → 1 ≤ m → length bs ≤ m → length (orDash bs) ≤ m + m
+unfolding orDash
+hex-length m [] h l = omega arith
+hex-length m (b ∷ bs) h l = omega (arith, hexOf-length (b ∷ bs))
+
+-- a line is its fields and a byte behind each
+more-length : (f g : List ℕ) (fs : List (List ℕ)) → length (line (f ∷ g ∷ fs)) ≡ length f + 1 + length (line (g ∷ fs))
+unfolding line
+more-length f g fs = length-append f (tab ∷ line (g ∷ fs)) ∙ omega arith
+
+last-length : (f : List ℕ) → length (line (f ∷ [])) ≡ length f + 1
+unfolding line
+last-length f = length-append f (newline ∷ []) ∙ omega arith
+
+credential-length : (x : Credential) → length (valueOf x) ≤ 16 → x .tries .limit ≤ 128 → x .tries .left ≤ 128 → length (credentialLine x) ≤ 41
+unfolding credentialLine
+credential-length x h l t =
+    omega (
+      arith,
+      more-length (orDash (valueOf x)) (decimal (x .tries .limit)) (decimal (x .tries .left) ∷ []),
+      more-length (decimal (x .tries .limit)) (decimal (x .tries .left)) [],
+      last-length (decimal (x .tries .left)),
+      hex-length 16 (valueOf x) (omega arith) h,
+      three-places (x .tries .limit) (omega arith),
+      three-places (x .tries .left) (omega arith),
+    )
+
+session-length : (c : Card) → ((w : Which) → rightKept c (numberOf w) ≤ 1) → length (challenge c) ≤ 16 → length (sessionLine c) ≤ 44
+unfolding sessionLine
+session-length c h l =
+    let fid = currentFid (c .directory) (c .session .current) in
+    omega (
+      arith,
+      more-length (decimal (rightKept c 0)) (decimal (rightKept c 1)) (decimal (rightKept c 2) ∷ orDash fid ∷ orDash (challenge c) ∷ []),
+      more-length (decimal (rightKept c 1)) (decimal (rightKept c 2)) (orDash fid ∷ orDash (challenge c) ∷ []),
+      more-length (decimal (rightKept c 2)) (orDash fid) (orDash (challenge c) ∷ []),
+      more-length (orDash fid) (orDash (challenge c)) [],
+      last-length (orDash (challenge c)),
+      one-place (rightKept c 0) (omega (arith, h device)),
+      one-place (rightKept c 1) (omega (arith, h admin)),
+      one-place (rightKept c 2) (omega (arith, h user)),
+      hex-length 2 fid (omega arith) (current-short (c .directory) (c .session .current)),
+      hex-length 16 (challenge c) (omega arith) l,
+    )
+
+-- the two counts of a file take six digits at the most
+counts-length : (f : File) → soundFile f ≡ true → size f ≤ 4096 → length (decimal (heldOrUsed f)) + length (decimal (f .newest)) ≤ 6
+unfolding heldOrUsed
+counts-length f h l = go (isVariable f) refl
+  where
+    go : (v : Bool) → isVariable f ≡ v → length (decimal (cond (isVariable f) (bytesUsed f) (f .held))) + length (decimal (f .newest)) ≤ 6
+    go true e =
+        let p = no-places f h e in
+        rw e (omega (arith, four-places (bytesUsed f) (omega (arith, used-few f h e, l)), one-place (f .newest) (omega (arith, p .1))))
+    go false e =
+        let p = few-places f h in
+        rw e (omega (arith, three-places (f .held) (omega (arith, p .0)), three-places (f .newest) (omega (arith, p .1))))
+
+file-length : (f : File) → soundFile f ≡ true → size f ≤ 4096 → length (fileLine f) ≤ 24
+unfolding fileLine
+file-length f h l =
+    omega (
+      arith,
+      more-length (orDash (fidBytes f)) (orDash (createBytes f)) (decimal (heldOrUsed f) ∷ decimal (f .newest) ∷ []),
+      more-length (orDash (createBytes f)) (decimal (heldOrUsed f)) (decimal (f .newest) ∷ []),
+      more-length (decimal (heldOrUsed f)) (decimal (f .newest)) [],
+      last-length (decimal (f .newest)),
+      hex-length 2 (fidBytes f) (omega arith) (omega arith),
+      hex-length 5 (createBytes f) (omega arith) (omega arith),
+      counts-length f h l,
+    )
+
+-- contents
+contents-length : (n : ℕ) (area : List ℕ) → 32 * length (contents (take n area)) ≤ 65 * n + 31
+contents-length n area =
+    let l = length-take n area in
+    omega (arith, contents-text (take n area), l)
+
+-- all files: 32 times the length, so that the lines of contents are counted without rounding
+files-length : (n : ℕ) (files : List File) (area : List ℕ) → n ≤ length files → ((i : ℕ) → i < n → (soundFile (fileAt files i) ≡ true) × (size (fileAt files i) ≤ 4096))
+    → 32 * length (filesText (take n files) area) ≤ 799 * n + 65 * startAt files n
+unfolding filesText
+files-length zero files area h k = omega arith
+files-length (suc n) [] area h k = absurd (omega arith)
+files-length (suc n) (f ∷ files) area h k =
+    let r = filesText (take n files) (drop (size f) area) in
+    let first = k 0 (omega arith) in
+    omega (
+      arith,
+      length-append (fileLine f) (contents (take (size f) area) ++ r),
+      length-append (contents (take (size f) area)) r,
+      file-length f (first .0) (first .1),
+      contents-length (size f) area,
+      files-length n files (drop (size f) area) (omega arith) (λ i l. k (suc i) (omega arith)),
+      start-cons f files n,
+    )
+
+-- the whole text
+front-short : (n : ℕ) (d : List ℕ) → n ≤ 16 → length (take n d) ≤ 16
+front-short n d h = omega (arith, length-take n d)
+
+value-short : (n : ℕ) (x : Credential) → soundValue n x ≡ true → length (valueOf x) ≤ 16
+unfolding soundValue
+value-short n x h =
+    let e = each (eqb (length (x .value)) 16 ∷ leb (x .len) 16 ∷ goodValue n (valueOf x) ∷ allOf isZero (drop (x .len) (x .value)) ∷ []) h in
+    front-short (x .len) (x .value) (leb-true _ _ (e .1 .0))
+
+challenge-short : (c : Card) → soundChallenge (c .session) ≡ true → length (challenge c) ≤ 16
+unfolding soundChallenge
+challenge-short c h =
+    let s = c .session in
+    let e = each (eqb (length (c .session .challenge)) 16 ∷ (isZero (c .session .len) || goodChallenge (c .session .len)) ∷ allOf isZero (drop (c .session .len) (c .session .challenge)) ∷ []) h in
+    front-short (c .session .len) (c .session .challenge) (said-short (c .session .len) (e .1 .0))
+
+module _ (c : Card) (g : Good c) where
+  line-at : (w : Which) → length (credentialLine (credential c (numberOf w))) ≤ 41
+  line-at w =
+      let k = g .credited (numberOf w) (numbered w) in
+      let t = tries-low (credential c (numberOf w)) _ (k .tries) in
+      credential-length (credential c (numberOf w)) (value-short (numberOf w) (credential c (numberOf w)) (k .value)) (t .0) (t .1)
+
+  credentials-length : length (credentialLines c) ≤ 123
+  unfolding credentialLines
+  credentials-length =
+      omega (
+        arith,
+        length-append (credentialLine (credential c 0)) (credentialLine (credential c 1) ++ credentialLine (credential c 2)),
+        length-append (credentialLine (credential c 1)) (credentialLine (credential c 2)),
+        line-at device,
+        line-at admin,
+        line-at user,
+      )
+
+pub text-fits : TextFits
+unfolding text
+text-fits c area h =
+    let g = sound-good c area h in
+    let d = c .directory in
+    let fd = filed (c .directory) (g .directory) in
+    let u = used-is (c .directory) (fd .few) in
+    let files = files-length (d .count) (d .files) area (omega (arith, fd .places, fd .few)) (λ i l. (place-sound (c .directory) fd i l, place-fits (c .directory) fd i l)) in
+    rw u
+    (omega (
+      arith,
+      length-append (credentialLines c) (sessionLine c ++ filesText (take (d .count) (d .files)) area),
+      length-append (sessionLine c) (filesText (take (d .count) (d .files)) area),
+      credentials-length c g,
+      session-length c (λ w. g .credited (numberOf w) (numbered w) .low) (challenge-short c (g .challenge)),
+      files,
+      fd .room,
+      fd .few,
+    ))

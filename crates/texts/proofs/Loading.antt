@@ -1,0 +1,179 @@
+-- What a text says, put together from the fields read; the writer and the reader.
+-- Assumes nothing.
+use Prim.Native.Nat.{ℕ, suc, _+_, _%_, _≤_}
+use mathlib.Core.Bool.{Bool, true, false, _&&_}
+use mathlib.Core.List.{List, [], _∷_, append-nil}
+use mathlib.Core.Path.{_≡_, refl, sym, ap, _∙_}
+use native.Mathlib.Omega.{arith}
+use lib.Dec.{leb}
+use lib.ListN.{length, take, drop, replicate, length-replicate, drop-of-length-le}
+use lib.Seq.{take-at, length-take-le}
+use borrow.Author.Tests.{eq-eqb, ne-eqb, le-leb}
+use Rattle.files.specs.declared.File.{File}
+use Rattle.files.specs.declared.Directory.{Directory}
+use Rattle.files.specs.Words.{two, isZero}
+use Rattle.files.specs.Part.{part, over, splice, zeros, shown, shows, stored, Reading, Writing}
+use Rattle.files.specs.State.{newFile, withNewest, withUsed}
+use Rattle.files.specs.Types.{variable}
+use Rattle.files.specs.Directory.{mostFiles, findFid}
+use Rattle.files.specs.Create.{areaSize}
+use Rattle.files.proofs.Parts.{over-splice}
+use Rattle.rules.specs.declared.Tries.{Tries}
+use Rattle.rules.specs.declared.Credential.{Credential}
+use Rattle.rules.specs.declared.Session.{Session}
+use Rattle.rules.specs.declared.Card.{Card}
+use Rattle.rules.specs.declared.Answer.{Answer}
+use Rattle.rules.specs.Calls.{answer}
+use Rattle.rules.specs.Words.{byte, same}
+use Rattle.rules.specs.State.{howMany, blankCard}
+use Rattle.rules.specs.Sound.{sound}
+use Rattle.texts.specs.Text.{text}
+use Rattle.texts.specs.Page.{Draws}
+use Rattle.texts.specs.Reading.{skip, skips, hexIn, number, small, triesOf, triesIn, credentialIn, currentIn, rightsIn, sessionIn, counted, fileOf, fileIn, filesIn, bytesIn, directoryOf, sessionPart, filesPart, cardIn, areaIn, Fills, LoadsAll, LoadsCard}
+use Rattle.texts.specs.Calls.{accepted, toText, Writes, fromText, Reads}
+use Rattle.texts.specs.Laws.{longest}
+use Rattle.texts.proofs.Drawing.{drawn-over}
+use Rattle.texts.proofs.Contents.{laid-length}
+use Rattle.texts.proofs.Fitting.{text-fits}
+use Rattle.texts.proofs.Scanning.{hex-few, laid-filled, laid-byte}
+
+pub tries-are : (s : List ℕ) (limit left : ℕ) → limit ≡ small s → left ≡ small (skip s) → triesOf left limit ≡ triesIn s
+unfolding triesIn
+tries-are s limit left e f = rw (e, f)
+
+pub credential-is : (s : List ℕ) (t : Tries) (n : ℕ) (left : List ℕ) → t ≡ triesIn (skip s) → Fills (hexIn 16 s) (replicate 16 0) n left → (x : Credential) → x ≡ record { value = left; len = n; tries = t } → x ≡ credentialIn s
+unfolding credentialIn
+credential-is s t n left e f x h = h ∙ rw (f .left-is, laid-filled s, e, f .count-is)
+
+module _ (d : Directory) (h : List ℕ) (n : ℕ) (e : n ≡ length h) where
+  pub current-none : n ≡ 0 → 0 ≡ currentIn d h
+  current-none z = let k : length h ≡ 0 = sym e ∙ z in rw (eq-eqb (length h) 0 k)
+
+  pub current-some : (a b t r : ℕ) → (n ≡ 0 → ⊥) → a ≡ byte h 0 → b ≡ byte h 1 → t ≡ two a b → r ≡ findFid d t → r ≡ currentIn d h
+  current-some a b t r z f g k q = let m : isZero (length h) ≡ false = ne-eqb (length h) 0 (λ x. z (e ∙ x)) in rw (m, ← f, ← g, ← k) q
+
+pub byte-of : (m : ℕ) (s : List ℕ) (n : ℕ) (left : List ℕ) (i : ℕ) → Fills (hexIn m s) (replicate m 0) n left → byte left i ≡ byte (hexIn m s) i
+byte-of m s n left i f = rw (f .left-is) (laid-byte m (hexIn m s) i (hex-few m s))
+
+pub session-is : (d : Directory) (s rights : List ℕ) (cur n : ℕ) (left : List ℕ) → rights ≡ rightsIn s → cur ≡ currentIn d (hexIn 2 (skips howMany s))
+    → Fills (hexIn 16 (skips (suc howMany) s)) (replicate 16 0) n left → (x : Session) → x ≡ record { rights = rights; current = cur; challenge = left; len = n } → x ≡ sessionIn d s
+unfolding sessionIn
+session-is d s rights cur n left e c f x h = h ∙ rw (e, c, f .left-is, laid-filled (skips (suc howMany) s), f .count-is)
+
+-- a file's counts
+module _ (f r : File) (n newest : ℕ) where
+  pub counted-variable : f .kind ≡ variable → r ≡ withUsed (withNewest f 0 newest) n → r ≡ counted f n newest
+  counted-variable e h = h ∙ rw (eq-eqb (f .kind) variable e)
+
+  pub counted-other : (f .kind ≡ variable → ⊥) → r ≡ withNewest f (n % 256) newest → r ≡ counted f n newest
+  counted-other e h = h ∙ rw (ne-eqb (f .kind) variable e)
+
+pub file-is : (s : List ℕ) (n m k newest : ℕ) (fid made : List ℕ) (f r : File) → Fills (hexIn 2 s) (replicate 2 0) n fid → Fills (hexIn 5 (skips 1 s)) (replicate 5 0) m made
+    → f ≡ newFile (byte fid 0) (byte fid 1) (byte made 0) (byte made 1) (byte made 2) (byte made 3) (byte made 4) → k ≡ number (skips 2 s) → newest ≡ small (skips 3 s) → r ≡ counted f k newest
+    → r ≡ fileIn s
+unfolding fileIn
+file-is s n m k newest fid made f r a b e h l q =
+    let x = byte-of 2 s n fid in
+    let y = byte-of 5 (skips 1 s) m made in
+    let g : f ≡ fileOf (hexIn 2 s) (hexIn 5 (skips 1 s)) = e ∙ rw (x 0 a, x 1 a, y 0 b, y 1 b, y 2 b, y 3 b, y 4 b) in
+    q ∙ rw (g, h, l)
+
+pub card-loaded : (s image left : List ℕ) (v a u : Credential) (d : Directory) (ss : Session) (x : Card) → v ≡ credentialIn s → a ≡ credentialIn (skips 3 s) → u ≡ credentialIn (skips 6 s)
+    → length image ≡ areaSize → LoadsAll (filesPart s) image d left → ss ≡ sessionIn d (sessionPart s) → x ≡ record { credentials = v ∷ a ∷ u ∷ []; directory = d; session = ss } → LoadsCard s image x left
+unfolding cardIn
+card-loaded s image left v a u d ss x hv ha hu n l hs h =
+    let directory : d ≡ directoryOf (filesIn mostFiles areaSize (filesPart s)) = l .directory-is ∙ rw n in
+    record { card-is = h ∙ rw (hs, directory, hv, ha, hu); left-is = l .left-is ∙ rw n }
+
+-- the text of a sound card, drawn on a page that takes it
+module _ (c : Card) (area : List ℕ) (h : sound c area ≡ true) (n : ℕ) (drawn : List ℕ) (w : Draws (text c area) (replicate longest 0) 0 n drawn) where
+  fits : length (text c area) ≤ length (replicate {A = ℕ} longest 0)
+  fits = omega (arith, text-fits c area h, length-replicate {A = ℕ} longest 0)
+
+  pub drawn-length : n ≡ length (text c area)
+  drawn-length = drawn-over (text c area) (replicate longest 0) drawn n fits w .0
+
+  pub drawn-low : n ≤ longest
+  drawn-low = omega (arith, drawn-length, text-fits c area h)
+
+  pub drawn-text : take n drawn ≡ text c area
+  unfolding over
+  drawn-text =
+      ap (take n) (drawn-over (text c area) (replicate longest 0) drawn n fits w .1) ∙ take-at (text c area) (drop (length (text c area)) (replicate longest 0)) n (sym drawn-length)
+
+  pub drawn-part : length drawn ≡ longest → n ≡ length (take n drawn)
+  drawn-part l = sym (length-take-le n drawn (omega (arith, drawn-low)))
+
+-- the writer
+module _ (c : Card) (area out : List ℕ) where
+  pub write-area : (r : Answer) → (length area ≡ areaSize → ⊥) → r ≡ answer 2 c 0 → Writes (toText c area out) r out
+  unfolding toText
+  write-area r h e = rw (ne-eqb (length area) areaSize h) (record { answer-is = e; left-is = refl })
+
+  module _ (a : length area ≡ areaSize) (t : Bool) (h : t ≡ sound c area) where
+    pub write-unsound : (r : Answer) → t ≡ false → r ≡ answer 4 c 0 → Writes (toText c area out) r out
+    unfolding toText
+    write-unsound r k e = rw (eq-eqb (length area) areaSize a, sym h ∙ k) (record { answer-is = e; left-is = refl })
+
+    module _ (k : t ≡ true) (n : ℕ) (drawn : List ℕ) (l : length drawn ≡ longest) (w : Draws (text c area) (replicate longest 0) 0 n drawn) (q : Bool) (left : List ℕ)
+        (v : Reading (shows (length drawn) 0 n (length out)) (part 0 n drawn) out q left) where
+      shown-is : shows (length drawn) 0 n (length out) ≡ leb (length (text c area)) (length out)
+      unfolding shows
+      shown-is = rw (l, le-leb (0 + n) longest (omega (arith, drawn-low c area (sym h ∙ k) n drawn w)), drawn-length c area (sym h ∙ k) n drawn w)
+
+      part-is : part 0 n drawn ≡ text c area
+      unfolding part
+      part-is = drawn-text c area (sym h ∙ k) n drawn w
+
+      pub write-short : (r : Answer) → q ≡ false → r ≡ answer 10 c 0 → Writes (toText c area out) r left
+      unfolding toText shown
+      write-short r z e =
+          let s : leb (length (text c area)) (length out) ≡ false = sym shown-is ∙ sym (v .answer-is) ∙ z in
+          rw (eq-eqb (length area) areaSize a, sym h ∙ k, s) (record { answer-is = e; left-is = rw (shown-is, s) at (v .left-is) })
+
+      pub write-done : (r : Answer) → q ≡ true → r ≡ answer 0 c n → Writes (toText c area out) r left
+      unfolding toText shown
+      write-done r z e =
+          let s : leb (length (text c area)) (length out) ≡ true = sym shown-is ∙ sym (v .answer-is) ∙ z in
+          rw (eq-eqb (length area) areaSize a, sym h ∙ k, s)
+          (record { answer-is = e ∙ ap (answer 0 c) (drawn-length c area (sym h ∙ k) n drawn w); left-is = rw (shown-is, s, part-is) at (v .left-is) })
+
+-- the reader
+over-all : (xs ys : List ℕ) → length ys ≡ length xs → over xs ys ≡ xs
+unfolding over
+over-all xs ys e = let l : length ys ≤ length xs = omega arith in rw (drop-of-length-le ys l) (append-nil xs)
+
+module _ (s area : List ℕ) where
+  pub read-area : (r : Answer) → (length area ≡ areaSize → ⊥) → r ≡ answer 2 blankCard 0 → Reads (fromText s area) r area
+  unfolding fromText
+  read-area r h e = rw (ne-eqb (length area) areaSize h) (record { answer-is = e; left-is = refl })
+
+  module _ (a : length area ≡ areaSize) (c : Card) (image : List ℕ) (w : LoadsCard s (zeros areaSize) c image) (t : Bool) (h : t ≡ sound c image) where
+    image-is : image ≡ areaIn s
+    unfolding areaIn
+    image-is = w .left-is
+
+    refused : (r : Answer) → accepted s ≡ false → r ≡ answer 11 blankCard 0 → Reads (fromText s area) r area
+    unfolding fromText
+    refused r z e = rw (eq-eqb (length area) areaSize a, z) (record { answer-is = e; left-is = refl })
+
+    accepts : accepted s ≡ (sound c image && same s (text c image))
+    unfolding accepted
+    accepts = sym (rw (w .card-is, image-is))
+
+    pub read-unsound : (r : Answer) → t ≡ false → r ≡ answer 11 blankCard 0 → Reads (fromText s area) r area
+    read-unsound r z e = refused r (accepts ∙ rw (sym h ∙ z)) e
+
+    module _ (k : t ≡ true) (q : Bool) (m : q ≡ same s (text c image)) where
+      pub read-other : (r : Answer) → q ≡ false → r ≡ answer 11 blankCard 0 → Reads (fromText s area) r area
+      read-other r z e = refused r (accepts ∙ rw (sym h ∙ k, sym m ∙ z)) e
+
+      pub read-good : (r : Answer) (ok : Bool) (left : List ℕ) → q ≡ true → r ≡ answer 0 c 0 → Writing (leb (0 + length image) (length area)) area 0 image ok left → Reads (fromText s area) r left
+      unfolding fromText stored
+      read-good r ok left z e g =
+          let n : length image ≡ areaSize = ap length (w .left-is) ∙ laid-length (zeros areaSize) 0 (bytesIn mostFiles areaSize (filesPart s)) ∙ length-replicate {A = ℕ} areaSize 0 in
+          let l : leb (0 + length image) (length area) ≡ true = le-leb (0 + length image) (length area) (omega arith) in
+          let k₀ : left ≡ splice area 0 image = rw l at (g .left-is) in
+          let p : left ≡ image = k₀ ∙ over-splice image area ∙ over-all image area (a ∙ sym n) in
+          let y : accepted s ≡ true = accepts ∙ rw (sym h ∙ k, sym m ∙ z) in
+          rw (eq-eqb (length area) areaSize a, y) (record { answer-is = e ∙ ap (λ (x : Card). answer 0 x 0) (w .card-is); left-is = p ∙ image-is })

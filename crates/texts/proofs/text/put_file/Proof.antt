@@ -1,0 +1,41 @@
+-- `texts::text::put_file` meets its contract. Assumes nothing.
+use Rattle.texts.specs.Text.{fileLine}
+use Rattle.texts.proofs.Drawing.{line-more, line-last, number-as}
+use native.Mathlib.Omega.{arith}
+use borrow.Author.Needs.{needs}
+use Rattle.texts.proofs.text.put_file.Statement.{statement}
+use Rattle.texts.proofs.text.put_file.Tie as tie
+
+slice-aggregate-hex-field : tie.Need-slice-aggregate-hex-field
+slice-aggregate-hex-field c = search needs
+
+hex-field-requires : tie.Need-hex-field-requires
+hex-field-requires c κs = tt
+
+slice-aggregate-hex-field-2 : tie.Need-slice-aggregate-hex-field-2
+slice-aggregate-hex-field-2 c = search needs
+
+hex-field-requires-2 : tie.Need-hex-field-requires-2
+hex-field-requires-2 c κs = tt
+
+held-or-used-requires : tie.Need-held-or-used-requires
+held-or-used-requires c κs = tt
+
+number-field-requires : tie.Need-number-field-requires
+number-field-requires c κs = tt
+
+cast-number-field : tie.Need-cast-number-field
+cast-number-field c = search needs
+
+number-field-requires-2 : tie.Need-number-field-requires-2
+number-field-requires-2 c κs = tt
+
+same-length : tie.Need-same-length
+same-length c = omega (arith, c .before .before .before .before .before .before .before .before .before .before .before .before .before .before .before .before .out .given, c .before .before .before .before .before .before .before .before .before .before .before .out2 .given, c .before .before .before .before .before .before .out3 .given, c .before .out4 .given)
+
+returns : tie.Need-returns
+unfolding fileLine
+returns c = line-more _ _ _ _ _ _ (c .before .before .before .before .before .before .before .before .before .before .before .before .before .before .before .before .before .hex-field .ensures) (line-more _ _ _ _ _ _ (c .before .before .before .before .before .before .before .before .before .before .before .before .hex-field2 .ensures) (line-more _ _ _ _ _ _ (number-as _ _ _ _ _ (c .before .before .before .before .before .before .before .number-field .ensures) (c .before .before .before .before .before .before .before .before .held-or-used .ensures)) (line-last _ _ _ (c .before .before .number-field2 .ensures))))
+
+pub put-file-spec : {M : Type 1} → statement M
+put-file-spec = tie.close (tie.spec slice-aggregate-hex-field hex-field-requires slice-aggregate-hex-field-2 hex-field-requires-2 held-or-used-requires number-field-requires cast-number-field number-field-requires-2 same-length returns)

@@ -1,0 +1,190 @@
+// The lines of a card.
+ghost use mathlib.Core.Path.{_≡_};
+ghost use mathlib.Core.Bool.{cond};
+ghost use mathlib.Core.List.{_++_};
+ghost use lib.ListN.{length, take, getD};
+ghost use Prim.Native.Nat.{_+_, _<_, min};
+ghost use Rattle.digits.specs.Digits.{tab, newline, ended, decimal, hexOf, orDash};
+ghost use Rattle.files.specs.Words.{isZero, Bounded};
+ghost use Rattle.files.specs.Directory.{used, fileAt};
+ghost use Rattle.rules.specs.State.{howMany};
+ghost use Rattle.texts.specs.Text.{credentialLine, credentialLines, sessionLine, heldOrUsed, fileLine, contents, filesText, text};
+ghost use Rattle.texts.specs.Page.{Draws};
+use crate::draw::front_field;
+use crate::draw::hex_field;
+use crate::draw::number_field;
+use crate::draw::put;
+use crate::draw::put_hex;
+use digits::NEWLINE;
+use digits::TAB;
+use files::Directory;
+use files::File;
+use files::numbers::wide;
+use files::places::file;
+use files::places::used;
+use files::record::bytes_used;
+use files::sizes::VARIABLE;
+use files::sizes::size;
+use rules::ADMIN;
+use rules::Card;
+use rules::Credential;
+use rules::DEVICE;
+use rules::Session;
+use rules::USER;
+
+// Value, limit, tries.
+fn put_credential(out: &mut [u8], at: usize, x: Credential) -> usize
+    ensures { λ r. ⌜ Draws (credentialLine x) (now (out .entry)) at r (now (out .exit)) ⌝ }
+{
+    let value = x.value;
+    let a = front_field(out, at, &value, wide(x.len), TAB);
+    let b = number_field(out, a, x.tries.limit as u16, TAB);
+    number_field(out, b, x.tries.left as u16, NEWLINE)
+}
+
+// Two bytes of FID, none for no file.
+fn fid_length(place: u8) -> usize
+    ensures { λ r. ⌜ Bounded 2 (cond (isZero place) 0 2) r ⌝ }
+{
+    if place == 0 { 0 } else { 2 }
+}
+
+// The right of a credential, as 0 or 1.
+fn put_right(out: &mut [u8], at: usize, s: Session, n: usize) -> usize
+    requires { ⌜ n < howMany ⌝ }
+    ensures { λ r. ⌜ Draws (ended tab (decimal (getD (s .rights) n 0))) (now (out .entry)) at r (now (out .exit)) ⌝ }
+{
+    let right = s.rights[n];
+    number_field(out, at, right as u16, TAB)
+}
+
+fn put_challenge(out: &mut [u8], at: usize, s: Session) -> usize
+    ensures { λ r. ⌜ Draws (ended newline (orDash (take (s .len) (s .challenge)))) (now (out .entry)) at r (now (out .exit)) ⌝ }
+{
+    let challenge = s.challenge;
+    front_field(out, at, &challenge, wide(s.len), NEWLINE)
+}
+
+fn put_session(out: &mut [u8], at: usize, card: Card) -> usize
+    ensures { λ r. ⌜ Draws (sessionLine card) (now (out .entry)) at r (now (out .exit)) ⌝ }
+{
+    let session = card.session;
+    let f = file(card.directory, session.current);
+    let fid = [f.fid1, f.fid2];
+    let n = fid_length(session.current);
+    let a = put_right(out, at, session, DEVICE);
+    let b = put_right(out, a, session, ADMIN);
+    let c = put_right(out, b, session, USER);
+    let d = front_field(out, c, &fid, n, TAB);
+    put_challenge(out, d, session)
+}
+
+// Records held; of type 2C the bytes used.
+fn held_or_used(f: File) -> u16
+    ensures { λ r. ⌜ r ≡ heldOrUsed f ⌝ }
+{
+    if f.kind == VARIABLE {
+        return bytes_used(f) as u16;
+    }
+    f.held as u16
+}
+
+// FID, CREATE's five bytes, records held, newest place.
+fn put_file(out: &mut [u8], at: usize, f: File) -> usize
+    ensures { λ r. ⌜ Draws (fileLine f) (now (out .entry)) at r (now (out .exit)) ⌝ }
+{
+    let fid = [f.fid1, f.fid2];
+    let made = [f.kind, f.size1, f.size2, f.read, f.write];
+    let a = hex_field(out, at, &fid, TAB);
+    let b = hex_field(out, a, &made, TAB);
+    let c = number_field(out, b, held_or_used(f), TAB);
+    number_field(out, c, f.newest as u16, NEWLINE)
+}
+
+// A line of contents.
+fn put_row(out: &mut [u8], at: usize, bytes: &[u8]) -> usize
+    ensures { λ r. ⌜ Draws (ended newline (hexOf (now (bytes .entry)))) (now (out .entry)) at r (now (out .exit)) ⌝ }
+{
+    let q = put_hex(out, at, bytes);
+    put(out, q, NEWLINE)
+}
+
+// n on from an index, or the end.
+pub(crate) fn ahead(at: usize, n: usize, end: usize) -> usize
+    ensures { λ r. ⌜ r ≡ min (at + n) end ⌝ }
+{
+    if at < end {
+        if n < end - at {
+            return at + n;
+        }
+    }
+    end
+}
+
+// Contents, 32 bytes a line, the rest in the last.
+fn put_contents(out: &mut [u8], at: usize, bytes: &[u8]) -> usize
+    ensures { λ r. ⌜ Draws (contents (now (bytes .entry))) (now (out .entry)) at r (now (out .exit)) ⌝ }
+{
+    let mut q = at;
+    let mut i: usize = 0;
+    while i < bytes.len() {
+        let end = ahead(i, 32, bytes.len());
+        q = put_row(out, q, &bytes[i..end]);
+        i = end;
+    }
+    q
+}
+
+// A file's line and its contents.
+fn put_whole(out: &mut [u8], at: usize, f: File, bytes: &[u8]) -> usize
+    ensures { λ r. ⌜ Draws (fileLine f ++ contents (now (bytes .entry))) (now (out .entry)) at r (now (out .exit)) ⌝ }
+{
+    let q = put_file(out, at, f);
+    put_contents(out, q, bytes)
+}
+
+fn file_at(d: Directory, i: usize) -> File
+    requires { ⌜ i < 16 ⌝ }
+    ensures { λ r. ⌜ (r ≡ fileAt (d .files) i) × (length (d .files) ≡ 16) ⌝ }
+{
+    let f = d.files[i];
+    f
+}
+
+fn put_files(out: &mut [u8], at: usize, d: Directory, area: &[u8]) -> usize
+    ensures { λ r. ⌜ Draws (filesText (take (used d) (d .files)) (now (area .entry))) (now (out .entry)) at r (now (out .exit)) ⌝ }
+{
+    let n = used(d);
+    let mut q = at;
+    let mut from: usize = 0;
+    let mut i: usize = 0;
+    while i < n {
+        let f = file_at(d, i);
+        let end = ahead(from, size(f), area.len());
+        q = put_whole(out, q, f, &area[from..end]);
+        from = end;
+        i += 1;
+    }
+    q
+}
+
+fn put_credentials(out: &mut [u8], at: usize, card: Card) -> usize
+    ensures { λ r. ⌜ Draws (credentialLines card) (now (out .entry)) at r (now (out .exit)) ⌝ }
+{
+    let device = card.credentials[DEVICE];
+    let admin = card.credentials[ADMIN];
+    let user = card.credentials[USER];
+    let a = put_credential(out, at, device);
+    let b = put_credential(out, a, admin);
+    put_credential(out, b, user)
+}
+
+// The whole text.
+pub(crate) fn put_card(out: &mut [u8], card: Card, area: &[u8]) -> usize
+    ensures { λ r. ⌜ Draws (text card (now (area .entry))) (now (out .entry)) 0 r (now (out .exit)) ⌝ }
+{
+    let directory = card.directory;
+    let a = put_credentials(out, 0, card);
+    let b = put_session(out, a, card);
+    put_files(out, b, directory, area)
+}

@@ -1,0 +1,47 @@
+/*
+ * A card kept in a file, in the form of docs/CARD-FILE.md. What the file holds is replaced as a whole: whoever reads it, and
+ * whenever the program or the machine stops, it is the card of before or the new one.
+ *
+ * Where something fails these say why.
+ */
+#ifndef READER_STORE_H
+#define READER_STORE_H
+
+#include "card.h"
+
+enum { LONGEST_NAME = 255 }; /* of a file on Linux */
+
+struct store {
+    const char *path;                 /* as the person named it */
+    const char *name;                 /* its last part, in folder */
+    char next_name[LONGEST_NAME + 1]; /* of the file that is to take its place */
+    int folder, file;                 /* file: -1 where there is none */
+    struct card_text text;            /* what is in the file; nothing where there is none */
+};
+
+enum found { FOUND, NONE, CANNOT_OPEN };
+enum use { TO_LOOK, TO_CHANGE };
+
+/*
+ * Opens the file and reads its text. To change it keeps all others out who want to change it, until store_close; it waits some
+ * seconds for one who is there. NONE, without a word, where there is no such file; it can be stored then, and is made by that.
+ */
+enum found store_open(struct store *s, const char *path, enum use use);
+
+/* Only after store_open with FOUND or NONE. */
+void store_close(struct store *s);
+
+/* Has the card of this program be that of the file. False where the file is none. */
+bool store_load(const struct store *s);
+
+/*
+ * NOT_STORED: the file is as it was, or is not there as before. STORED_FOR_NOW: it has the card, but may be as before where the
+ * machine loses its power.
+ */
+enum stored { STORED, NOT_STORED, STORED_FOR_NOW };
+enum part { WHOLE_CARD, WHAT_LASTS };
+
+/* Has the file hold the card of this program: with its session, or as it is without power. */
+enum stored store_card(struct store *s, enum part part);
+
+#endif

@@ -1,0 +1,112 @@
+/*
+ * Stands between a program and the disk, with --wrap of the linker. The environment names one of the calls that reader/store.c
+ * makes, by its number: DISK_FAILS, where that call fails as on a full disk; DISK_KILLS, where the program is killed before it;
+ * DISK_STOPS, where it stops before it until it is sent SIGCONT. Half of what a write was to write is on the disk in the first two.
+ * DISK_LOG names a file to which each call is written that works.
+ */
+#define _DEFAULT_SOURCE
+#include <errno.h>
+#include <fcntl.h>
+#include <signal.h>
+#include <stdbool.h>
+#include <stdio.h>
+#include <stdlib.h>
+#include <sys/stat.h>
+#include <unistd.h>
+
+int __real_openat(int folder, const char *name, int flags, mode_t mode);
+ssize_t __real_write(int file, const void *bytes, size_t len);
+int __real_fchmod(int file, mode_t mode);
+int __real_fsync(int file);
+int __real_renameat(int from_folder, const char *from, int to_folder, const char *to);
+int __real_linkat(int from_folder, const char *from, int to_folder, const char *to, int flags);
+int __real_unlinkat(int folder, const char *name, int flags);
+
+static bool is_number(const char *variable, int number)
+{
+    const char *text = getenv(variable);
+    return text != NULL && atoi(text) == number;
+}
+
+enum fate { WORKS, FAILS, KILLED };
+
+static enum fate next_call(void)
+{
+    static int calls = 0;
+
+    calls++;
+    if (is_number("DISK_STOPS", calls))
+        raise(SIGSTOP);
+    return is_number("DISK_FAILS", calls) ? FAILS : is_number("DISK_KILLS", calls) ? KILLED : WORKS;
+}
+
+static void note(const char *call)
+{
+    FILE *log = getenv("DISK_LOG") == NULL ? NULL : fopen(getenv("DISK_LOG"), "a");
+
+    if (log != NULL) {
+        fprintf(log, "%s\n", call);
+        fclose(log);
+    }
+}
+
+/* Whether the call is to be made. */
+static bool made(const char *call)
+{
+    enum fate fate = next_call();
+
+    if (fate == KILLED)
+        raise(SIGKILL);
+    if (fate == FAILS)
+        errno = ENOSPC;
+    else
+        note(call);
+    return fate == WORKS;
+}
+
+int __wrap_openat(int folder, const char *name, int flags, mode_t mode)
+{
+    return made("openat") ? __real_openat(folder, name, flags, mode) : -1;
+}
+
+ssize_t __wrap_write(int file, const void *bytes, size_t len)
+{
+    enum fate fate = next_call();
+
+    if (fate == WORKS) {
+        note("write");
+        return __real_write(file, bytes, len);
+    }
+    if (__real_write(file, bytes, len / 2) >= 0 && fate == KILLED)
+        raise(SIGKILL);
+    errno = ENOSPC;
+    return -1;
+}
+
+int __wrap_fchmod(int file, mode_t mode)
+{
+    return made("fchmod") ? __real_fchmod(file, mode) : -1;
+}
+
+int __wrap_fsync(int file)
+{
+    struct stat is;
+    bool folder = fstat(file, &is) == 0 && S_ISDIR(is.st_mode);
+
+    return made(folder ? "fsync of the folder" : "fsync") ? __real_fsync(file) : -1;
+}
+
+int __wrap_renameat(int from_folder, const char *from, int to_folder, const char *to)
+{
+    return made("renameat") ? __real_renameat(from_folder, from, to_folder, to) : -1;
+}
+
+int __wrap_linkat(int from_folder, const char *from, int to_folder, const char *to, int flags)
+{
+    return made("linkat") ? __real_linkat(from_folder, from, to_folder, to, flags) : -1;
+}
+
+int __wrap_unlinkat(int folder, const char *name, int flags)
+{
+    return made("unlinkat") ? __real_unlinkat(folder, name, flags) : -1;
+}

@@ -1,0 +1,354 @@
+#include "form.h"
+
+#include <string.h>
+
+enum { LINE_BYTES = 32, LONGEST_RECORD = 178, HIGHEST_SHORT_NUMBER = 30, HIGHEST_LIMIT = 128 };
+enum { CREDENTIAL_FIELDS = 3, SESSION_FIELDS = 5, FILE_FIELDS = 4, MOST_FIELDS = 6 };
+
+/* What is left of the text, and the fields of the line that was read last. */
+struct reading {
+    struct bytes rest;
+    struct bytes fields[MOST_FIELDS];
+    size_t count;  /* more than MOST_FIELDS where there are too many */
+    bool too_long; /* the text is longer than any card's, and was not read to its end */
+    struct form *form;
+};
+
+/* ------------------------------------------------------------ lines and fields */
+
+static bool fail(struct reading *r, const char *wrong)
+{
+    r->form->wrong = wrong;
+    return false;
+}
+
+static void part_fields(struct reading *r, struct bytes line)
+{
+    size_t from = 0;
+
+    r->count = 0;
+    for (size_t i = 0; i <= line.len; i++)
+        if (i == line.len || line.at[i] == '\t') {
+            if (r->count < MOST_FIELDS)
+                r->fields[r->count] = (struct bytes){ line.at + from, i - from };
+            r->count++;
+            from = i + 1;
+        }
+}
+
+/* The next line, which is to have so many fields. part: what stands in it. */
+static bool next_line(struct reading *r, const char *part, size_t fields)
+{
+    const uint8_t *newline = r->rest.len == 0 ? NULL : memchr(r->rest.at, '\n', r->rest.len);
+    struct bytes line;
+
+    r->form->line++;
+    r->form->part = part;
+    if (r->rest.len == 0)
+        return fail(r, r->form->line == 1 ? "the file is empty" : "the file ends before this line");
+    if (newline == NULL)
+        return fail(r, r->too_long ? "the file is longer than any card's" : "it has no newline at its end");
+    line = (struct bytes){ r->rest.at, (size_t)(newline - r->rest.at) };
+    r->rest = (struct bytes){ newline + 1, r->rest.len - line.len - 1 };
+    if (line.len > 0 && line.at[line.len - 1] == '\r')
+        return fail(r, "it ends in CR LF in place of LF");
+    part_fields(r, line);
+    return r->count == fields || fail(r, "it has not the right number of fields, which are parted by one tab each");
+}
+
+static bool is_none(struct bytes field)
+{
+    return field.len == 1 && field.at[0] == '-';
+}
+
+static bool hex_of(struct bytes field, struct hex *h, size_t bytes)
+{
+    return read_hex(field, h) && h->len == bytes;
+}
+
+/* ------------------------------------------------------------ credentials and session */
+
+const char *credential_name(size_t credential)
+{
+    static const char *const names[CREDENTIALS] = { "device key", "admin PIN", "user PIN" };
+    return names[credential];
+}
+
+static bool is_pin(const struct hex *h)
+{
+    if (h->len < 6 || h->len > 16)
+        return false;
+    for (size_t i = 0; i < h->len; i++)
+        if (h->at[i] < '0' || h->at[i] > '9')
+            return false;
+    return true;
+}
+
+static bool is_value(struct bytes field, bool key)
+{
+    struct hex h;
+    bool good = read_hex(field, &h) && (key ? h.len == LIMPET_KEY_SIZE : is_pin(&h));
+
+    wipe(&h, sizeof h);
+    return good;
+}
+
+static bool read_credential(struct reading *r, size_t number)
+{
+    struct form_credential *c = &r->form->credentials[number];
+    bool key = number == DEVICE_KEY;
+
+    if (!next_line(r, credential_name(number), CREDENTIAL_FIELDS))
+        return false;
+    if (!is_value(r->fields[0], key))
+        return fail(r, key ? "the key is not 16 bytes in upper-case hex"
+                           : "the PIN is not 6 to 16 digits, each in hex as 30 to 39");
+    if (!read_number(r->fields[1], &c->limit) || c->limit < 1 || c->limit > HIGHEST_LIMIT)
+        return fail(r, "the limit is not a number from 1 to 128 without leading zeros");
+    if (!read_number(r->fields[2], &c->left) || c->left > c->limit)
+        return fail(r, "the tries left are not a number from 0 to the limit without leading zeros");
+    return true;
+}
+
+static bool read_rights(struct reading *r)
+{
+    for (size_t i = 0; i < CREDENTIALS; i++) {
+        struct form_credential *c = &r->form->credentials[i];
+        uint16_t held;
+
+        if (!read_number(r->fields[i], &held) || held > 1)
+            return fail(r, "a right is neither 0 nor 1");
+        c->held = held == 1;
+        if (c->held && c->left != c->limit)
+            return fail(r, "a right is held, and not all tries of its credential are left");
+    }
+    return true;
+}
+
+static bool read_challenge(struct bytes field, unsigned *size)
+{
+    struct hex h = { .len = 0 };
+    bool good = is_none(field) || (read_hex(field, &h) && (h.len == 4 || h.len == 8 || h.len == 16));
+
+    *size = (unsigned)h.len;
+    wipe(&h, sizeof h);
+    return good;
+}
+
+/* Whether the current file exists is seen when all files are read. */
+static bool read_session(struct reading *r)
+{
+    struct hex fid = { .len = 0 };
+
+    if (!next_line(r, "session", SESSION_FIELDS) || !read_rights(r))
+        return false;
+    if (!is_none(r->fields[3]) && !hex_of(r->fields[3], &fid, 2))
+        return fail(r, "the current file is neither four upper-case hex digits nor -");
+    r->form->current = fid.len == 0 ? NO_FILE : fid.at[0] << 8 | fid.at[1];
+    return read_challenge(r->fields[4], &r->form->challenge_size)
+        || fail(r, "the challenge is neither 4, 8 or 16 bytes in upper-case hex nor -");
+}
+
+/* ------------------------------------------------------------ files */
+
+unsigned short_number(const struct form_file *f)
+{
+    return (unsigned)f->fid & 0x1F;
+}
+
+static bool has_places(uint8_t type)
+{
+    return type == FIXED || type == CYCLIC;
+}
+
+unsigned bytes_taken(const struct form_file *f)
+{
+    return has_places(f->type) ? (unsigned)f->size1 * f->size2 : (unsigned)f->size1 << 8 | f->size2;
+}
+
+static bool good_type(uint8_t type)
+{
+    return type == BINARY || type == VARIABLE || has_places(type);
+}
+
+static bool good_size(const struct form_file *f)
+{
+    if (has_places(f->type))
+        return 2 <= f->size1 && f->size1 <= 254 && 1 <= f->size2 && f->size2 <= LONGEST_RECORD;
+    return (f->type == BINARY ? 1 : 2) <= bytes_taken(f) && bytes_taken(f) <= LIMPET_AREA_SIZE;
+}
+
+static bool good_rights(uint8_t rights)
+{
+    return rights == FOR_NOBODY || (rights & ~(FOR_ADMIN | FOR_USER | FOR_DEVICE)) == 0;
+}
+
+static const char *wrong_counts(const struct form_file *f)
+{
+    if (f->type == CYCLIC && f->held > f->size1)
+        return "it holds more records than it has places";
+    if (f->type == CYCLIC && f->newest >= f->size1)
+        return "its newest place is not below the number of its places, which count from 0";
+    if (f->type == CYCLIC && f->held == 0 && f->newest != 0)
+        return "it holds no record, and its newest place is not 0";
+    if (f->type == VARIABLE && f->held > bytes_taken(f))
+        return "it uses more bytes than it has";
+    if (f->type != CYCLIC && f->newest != 0)
+        return "its newest place is not 0, and only type 2E has one";
+    if ((f->type == BINARY || f->type == FIXED) && f->held != 0)
+        return "its records held are not 0, and this type does not count them";
+    return NULL;
+}
+
+/* Among the files that were read before. */
+static const char *wrong_among(const struct form *form, const struct form_file *f)
+{
+    unsigned used = bytes_taken(f);
+
+    for (size_t i = 0; i < form->count; i++) {
+        used += bytes_taken(&form->files[i]);
+        if (short_number(&form->files[i]) == short_number(f))
+            return "a file before it has the same short number, the low five bits of its FID";
+    }
+    if (used > LIMPET_AREA_SIZE)
+        return "the files take more than 4,096 bytes";
+    return form->count < MOST_FILES ? NULL : "there are more than 16 files";
+}
+
+static const char *wrong_file(const struct form *form, const struct form_file *f)
+{
+    const char *wrong;
+
+    if (short_number(f) < 1 || short_number(f) > HIGHEST_SHORT_NUMBER)
+        return "its short number, the low five bits of its FID, is not 1 to 30";
+    if (!good_type(f->type))
+        return "its type is not 28, 2A, 2C or 2E";
+    if (!good_size(f))
+        return "its two size bytes are not good for its type";
+    if (!good_rights(f->read) || !good_rights(f->write))
+        return "a rights byte is not 0F, and has a bit that is none of 80, 40 and 01";
+    wrong = wrong_counts(f);
+    return wrong != NULL ? wrong : wrong_among(form, f);
+}
+
+static bool read_file_fields(struct reading *r, struct form_file *f)
+{
+    struct hex fid, made;
+
+    if (!hex_of(r->fields[0], &fid, 2))
+        return fail(r, "the FID is not four upper-case hex digits");
+    f->fid = fid.at[0] << 8 | fid.at[1];
+    r->form->of = f->fid;
+    if (!hex_of(r->fields[1], &made, 5))
+        return fail(r, "type, size and rights are not ten upper-case hex digits");
+    f->type = made.at[0];
+    f->size1 = made.at[1];
+    f->size2 = made.at[2];
+    f->read = made.at[3];
+    f->write = made.at[4];
+    return (read_number(r->fields[2], &f->held) && read_number(r->fields[3], &f->newest))
+        || fail(r, "records held (or used bytes) and newest place are not numbers without leading zeros");
+}
+
+/* Where one is among the records of a 2C file: how many bytes of the current one are still to come. */
+struct walk {
+    unsigned used, left, records;
+};
+
+/* One more byte of the file. Whether records can go on so. */
+static bool step(struct walk *w, uint8_t byte)
+{
+    if (w->used == 0)
+        return true;
+    w->used--;
+    if (w->left > 0) {
+        w->left--;
+        return true;
+    }
+    w->left = byte;
+    w->records++;
+    return 1 <= byte && byte <= LONGEST_RECORD && byte <= w->used;
+}
+
+static bool read_contents_line(struct reading *r, unsigned bytes, struct walk *w)
+{
+    struct hex h;
+    bool good;
+
+    if (!next_line(r, "contents", 1))
+        return false;
+    good = hex_of(r->fields[0], &h, bytes)
+        || fail(r, bytes == LINE_BYTES ? "it is not 32 bytes in upper-case hex"
+                                       : "it is not the rest of the file in upper-case hex");
+    for (size_t i = 0; good && i < bytes; i++)
+        good = step(w, h.at[i]) || fail(r, "the length of a record is not 1 to 178, or leads past the used bytes");
+    wipe(&h, sizeof h);
+    return good;
+}
+
+static unsigned records_of(const struct form_file *f, const struct walk *w)
+{
+    if (f->type == VARIABLE)
+        return w->records;
+    return f->type == CYCLIC ? f->held : f->type == FIXED ? f->size1 : 0;
+}
+
+static bool read_contents(struct reading *r, struct form_file *f)
+{
+    struct walk w = { .used = f->type == VARIABLE ? f->held : 0 };
+
+    for (unsigned left = bytes_taken(f); left > 0;) {
+        unsigned bytes = left < LINE_BYTES ? left : LINE_BYTES;
+        if (!read_contents_line(r, bytes, &w))
+            return false;
+        left -= bytes;
+    }
+    f->records = records_of(f, &w);
+    return true;
+}
+
+static bool read_file(struct reading *r)
+{
+    struct form_file f = { .fid = 0 };
+    const char *wrong;
+
+    r->form->of = NO_FILE;
+    if (!next_line(r, "file", FILE_FIELDS) || !read_file_fields(r, &f))
+        return false;
+    wrong = wrong_file(r->form, &f);
+    if (wrong != NULL)
+        return fail(r, wrong);
+    if (!read_contents(r, &f))
+        return false;
+    r->form->files[r->form->count++] = f;
+    return true;
+}
+
+static bool current_exists(struct reading *r)
+{
+    struct form *f = r->form;
+
+    for (size_t i = 0; i < f->count; i++)
+        if (f->files[i].fid == f->current)
+            return true;
+    if (f->current == NO_FILE)
+        return true;
+    f->line = CREDENTIALS + 1;
+    f->part = "session";
+    f->of = NO_FILE;
+    return fail(r, "there is no file with the FID of the current one");
+}
+
+bool read_form(const struct card_text *t, struct form *f)
+{
+    struct reading r = { .rest = { t->at, t->len }, .too_long = t->len > LIMPET_TEXT_SIZE, .form = f };
+    bool good = true;
+
+    *f = (struct form){ .current = NO_FILE, .of = NO_FILE };
+    for (size_t i = 0; good && i < CREDENTIALS; i++)
+        good = read_credential(&r, i);
+    good = good && read_session(&r);
+    while (good && r.rest.len > 0)
+        good = read_file(&r);
+    return good && current_exists(&r);
+}

@@ -1,0 +1,52 @@
+/*
+ * A card's file as docs/CARD-FILE.md describes it, read by a plain parser: for people, who want to know what is in it, and which
+ * line is wrong. Whether it is a card is the library's to say and not this parser's.
+ *
+ * No key, PIN, challenge or contents are kept, so that nothing can print them.
+ */
+#ifndef CARDS_FORM_H
+#define CARDS_FORM_H
+
+#include "card.h"
+
+enum { DEVICE_KEY, ADMIN_PIN, USER_PIN, CREDENTIALS };
+enum { MOST_FILES = 16, NO_FILE = -1 };
+enum { BINARY = 0x28, FIXED = 0x2A, VARIABLE = 0x2C, CYCLIC = 0x2E };
+enum { FOR_ADMIN = 0x80, FOR_USER = 0x40, FOR_DEVICE = 0x01, FOR_NOBODY = 0x0F };
+
+struct form_credential {
+    uint16_t limit, left;
+    bool held; /* its right */
+};
+
+struct form_file {
+    int fid;
+    uint8_t type, size1, size2, read, write;
+    uint16_t held, newest; /* held: of type 2C, the used bytes */
+    unsigned records;      /* that it has now; none in a binary file */
+};
+
+struct form {
+    struct form_credential credentials[CREDENTIALS];
+    int current;             /* the FID of the current file, or NO_FILE */
+    unsigned challenge_size; /* 0 where there is none */
+    struct form_file files[MOST_FILES];
+    size_t count;
+
+    /* What is wrong with it: NULL where nothing is. */
+    const char *wrong;
+    size_t line;      /* the number of the line */
+    const char *part; /* what stands in that line */
+    int of;           /* the FID of the file that it belongs to, or NO_FILE */
+};
+
+/* Reads the text. Whether nothing is wrong with it. */
+bool read_form(const struct card_text *t, struct form *f);
+
+/* SFI, and the bytes of the data area that a file takes. */
+unsigned short_number(const struct form_file *f);
+unsigned bytes_taken(const struct form_file *f);
+
+const char *credential_name(size_t credential);
+
+#endif

@@ -1,0 +1,227 @@
+/* Cards kept in files: made, run, shown and checked. --help says how it is called. */
+#include <signal.h>
+#include <stdio.h>
+#include <stdlib.h>
+#include <string.h>
+
+#include "card.h"
+#include "form.h"
+#include "run.h"
+#include "say.h"
+#include "script.h"
+#include "secret.h"
+#include "show.h"
+#include "store.h"
+
+enum { BAD_USAGE = 2, SOME_LINES_NOT_RUN = 3 };
+
+const char said_by[] = "card";
+
+static const char usage[] =
+    "usage: tools/card new CARD KEY LIMIT ADMIN_PIN LIMIT USER_PIN LIMIT\n"
+    "       tools/card new CARD SCRIPT\n"
+    "       tools/card run CARD SCRIPT\n"
+    "       tools/card show CARD\n"
+    "       tools/card check CARD\n"
+    "\n"
+    "CARD is a file with a whole card in it: key, PINs, tries, session and files.\n"
+    "docs/CARD-FILE.md says what stands where. Key and PINs stand there as they are, so\n"
+    "the file is for its owner alone (mode 600); one that others can open is warned of.\n"
+    "\n"
+    "new    makes a card, and the file with it. A file that is there is never\n"
+    "       overwritten. The six values are those of an ISSUE line: the key as 32\n"
+    "       upper-case hex digits, each PIN 6 to 16 digits, each limit 1 to 128. With -\n"
+    "       in place of the key or a PIN it is read from standard input, one a line;\n"
+    "       at a terminal it is asked for and not shown. Others on the same machine can\n"
+    "       see the words of a command line, and not what is typed or piped. Or a script\n"
+    "       makes the card: an ISSUE line, and CMD and RESET lines that prepare it. Where\n"
+    "       one of its lines is not served, no card is made.\n"
+    "run    runs the CMD and RESET lines of a script on the card, and prints for each\n"
+    "       line what ./limpet prints (./limpet --help). The session goes on where the\n"
+    "       last run left it: rights, current file, challenge; RESET ends it. The card is\n"
+    "       stored once, when the script has ended. An ISSUE line ends the run, and nothing\n"
+    "       is stored: what follows it is for another card, and could block the PINs of\n"
+    "       this one. Two runs on one card wait for each other, up to 5 seconds.\n"
+    "show   prints tries left, files and free space: no key, PIN, challenge or contents.\n"
+    "check  says whether the card takes the file, and where not, at which line and why,\n"
+    "       as far as that can be told.\n"
+    "\n"
+    "SCRIPT may be a pipe, and - is standard input. CARD is replaced as a whole, so\n"
+    "whatever goes wrong it holds the card of before or the new one.\n"
+    "\n"
+    "Status: 0 when all was done; 1 for an error: CARD is as it was, unless the message\n"
+    "says otherwise; 1 from check where CARD is refused; 2 for bad usage; 3 from run where\n"
+    "the card was stored, but some lines were not run (their outcome is not 0).\n"
+    "\n"
+    "  tools/card new box.card - 128 - 5 - 3         asks for the key and the PINs\n"
+    "  tools/card new box.card examples/box.script   the box of docs/STANDBY.md\n"
+    "  tools/card show box.card\n";
+
+static int bad_usage(void)
+{
+    fputs(usage, stderr);
+    return BAD_USAGE;
+}
+
+/* ------------------------------------------------------------ new */
+
+/* Where - stands for a key or a PIN, the line of standard input that takes its place. */
+struct secrets {
+    struct text key, admin_pin, user_pin;
+};
+
+static bool take_secret(char **word, const char *name, struct text *t)
+{
+    if (strcmp(*word, "-") != 0)
+        return true;
+    *word = (char *)t->at;
+    return read_secret(name, t);
+}
+
+static bool issue_values(char *const given[ISSUE_FIELDS])
+{
+    static char room[BUFSIZ]; /* lasts as long as standard input */
+    struct secrets s;
+    char *word[ISSUE_FIELDS];
+    bool good;
+
+    setvbuf(stdin, room, _IOFBF, sizeof room);
+    memcpy(word, given, sizeof word);
+    good = take_secret(&word[0], "device key", &s.key) && take_secret(&word[2], "admin PIN", &s.admin_pin)
+        && take_secret(&word[4], "user PIN", &s.user_pin) && issue_words(word);
+    wipe(&s, sizeof s);
+    wipe(room, sizeof room);
+    return good;
+}
+
+static int new_card(int words, char **word)
+{
+    struct store s;
+    enum found found;
+    bool good = false;
+
+    if (words != 2 && words != 1 + ISSUE_FIELDS)
+        return bad_usage();
+    found = store_open(&s, word[0], TO_LOOK);
+    if (found == CANNOT_OPEN)
+        return EXIT_FAILURE;
+    if (found == FOUND)
+        say("%s is there already, and is left as it is", word[0]);
+    else
+        good = (words == 2 ? run_script(word[1], true) : issue_values(word + 1))
+            && store_card(&s, WHOLE_CARD) == STORED;
+    store_close(&s);
+    return good ? EXIT_SUCCESS : EXIT_FAILURE;
+}
+
+/* ------------------------------------------------------------ run, show, check */
+
+/* Opens a file that has to be there. */
+static bool open_card(struct store *s, const char *path, enum use use)
+{
+    enum found found = store_open(s, path, use);
+
+    if (found == NONE) {
+        say("there is no file %s; tools/card new makes one", path);
+        store_close(s);
+    }
+    return found == FOUND;
+}
+
+static int run_and_store(struct store *s, const char *script)
+{
+    enum ran ran = run_on_card(script);
+
+    if (ran == BROKEN_OFF || store_card(s, WHOLE_CARD) != STORED)
+        return EXIT_FAILURE;
+    return ran == ALL_RUN ? EXIT_SUCCESS : SOME_LINES_NOT_RUN;
+}
+
+static int run_card(int words, char **word)
+{
+    struct store s;
+    int status = EXIT_FAILURE;
+
+    if (words != 2)
+        return bad_usage();
+    signal(SIGPIPE, SIG_IGN); /* an answer that nobody takes is an error like others */
+    if (!open_card(&s, word[0], TO_CHANGE))
+        return EXIT_FAILURE;
+    if (store_load(&s))
+        status = run_and_store(&s, word[1]);
+    store_close(&s);
+    return status;
+}
+
+/* What was printed is there, or the status says that it is not. */
+static int printed(int status)
+{
+    if (fflush(stdout) == 0 && !ferror(stdout))
+        return status;
+    say("the output cannot be written");
+    return EXIT_FAILURE;
+}
+
+static int show_file(int words, char **word)
+{
+    struct store s;
+    struct form f;
+    int status = EXIT_FAILURE;
+
+    if (words != 1)
+        return bad_usage();
+    if (!open_card(&s, word[0], TO_LOOK))
+        return EXIT_FAILURE;
+    if (store_load(&s)) {
+        if (read_form(&s.text, &f)) {
+            show_card(&f);
+            status = printed(EXIT_SUCCESS);
+        } else {
+            say("%s is a card, but not one that this program can explain", word[0]);
+        }
+    }
+    store_close(&s);
+    return status;
+}
+
+static int check_file(int words, char **word)
+{
+    struct store s;
+    struct form f;
+    bool accepted;
+
+    if (words != 1)
+        return bad_usage();
+    if (!open_card(&s, word[0], TO_LOOK))
+        return EXIT_FAILURE;
+    accepted = card_from_text(&s.text) == LIMPET_OK;
+    read_form(&s.text, &f);
+    show_verdict(word[0], accepted, &f);
+    store_close(&s);
+    return printed(accepted ? EXIT_SUCCESS : EXIT_FAILURE);
+}
+
+/* ------------------------------------------------------------ which */
+
+int main(int argc, char **argv)
+{
+    static const struct {
+        const char *word;
+        int (*run)(int words, char **word);
+    } parts[] = { { "new", new_card }, { "run", run_card }, { "show", show_file }, { "check", check_file } };
+    int status = BAD_USAGE;
+
+    if (argc == 2 && (strcmp(argv[1], "--help") == 0 || strcmp(argv[1], "-h") == 0)) {
+        fputs(usage, stdout);
+        return EXIT_SUCCESS;
+    }
+    for (size_t i = 0; i < sizeof parts / sizeof parts[0]; i++)
+        if (argc > 1 && strcmp(argv[1], parts[i].word) == 0) {
+            if (!card_fits())
+                return EXIT_FAILURE;
+            status = parts[i].run(argc - 2, argv + 2);
+            card_wipe();
+            return status;
+        }
+    return bad_usage();
+}

@@ -1,0 +1,148 @@
+#include "show.h"
+
+#include <stdio.h>
+
+static const char *plural(unsigned count)
+{
+    return count == 1 ? "" : "s";
+}
+
+/* A user PIN can be opened again, as long as the admin PIN is not blocked too. */
+static const char *way_out(const struct form *f, size_t credential)
+{
+    if (credential == USER_PIN && f->credentials[ADMIN_PIN].left > 0)
+        return "RELOAD PIN with the admin PIN opens it";
+    return "nothing opens it again";
+}
+
+static void show_credentials(const struct form *f)
+{
+    for (size_t i = 0; i < CREDENTIALS; i++) {
+        const struct form_credential *c = &f->credentials[i];
+        printf("%-10s  %u of %u tries left", credential_name(i), (unsigned)c->left, (unsigned)c->limit);
+        if (c->left == 0)
+            printf(": BLOCKED, %s", way_out(f, i));
+        putchar('\n');
+    }
+}
+
+static void show_session(const struct form *f)
+{
+    static const char *const held[CREDENTIALS] = { "the device is logged in", "the admin PIN is shown", "the user PIN is shown" };
+    const char *before = "";
+
+    fputs("session     ", stdout);
+    for (size_t i = 0; i < CREDENTIALS; i++)
+        if (f->credentials[i].held) {
+            printf("%s%s", before, held[i]);
+            before = ", ";
+        }
+    if (f->current != NO_FILE) {
+        printf("%scurrent file %04X", before, (unsigned)f->current);
+        before = ", ";
+    }
+    if (f->challenge_size > 0) {
+        printf("%sa challenge of %u bytes", before, f->challenge_size);
+        before = ", ";
+    }
+    puts(before[0] == '\0' ? "none: as after a reset" : "");
+}
+
+static void show_room(const struct form *f)
+{
+    unsigned used = 0;
+
+    for (size_t i = 0; i < f->count; i++)
+        used += bytes_taken(&f->files[i]);
+    printf("files       %zu of %d\n", f->count, MOST_FILES);
+    printf("free space  %u of %d bytes\n", LIMPET_AREA_SIZE - used, LIMPET_AREA_SIZE);
+}
+
+static const char *type_name(uint8_t type)
+{
+    switch (type) {
+    case BINARY:
+        return "binary";
+    case FIXED:
+        return "fixed records";
+    case VARIABLE:
+        return "records of different lengths";
+    default:
+        return "cyclic records";
+    }
+}
+
+static void show_size(const struct form_file *f)
+{
+    if (f->type == BINARY || f->type == VARIABLE)
+        printf("  size   %u byte%s\n", bytes_taken(f), plural(bytes_taken(f)));
+    else
+        printf("  size   %u records of %u byte%s\n", (unsigned)f->size1, (unsigned)f->size2, plural(f->size2));
+}
+
+static void show_holds(const struct form_file *f)
+{
+    if (f->type == BINARY)
+        return;
+    printf("  holds  %u record%s", f->records, plural(f->records));
+    if (f->type == VARIABLE)
+        printf(", %u of %u bytes used", (unsigned)f->held, bytes_taken(f));
+    else if (f->type == CYCLIC && f->held == f->size1)
+        fputs(": full, the next takes the place of the oldest", stdout);
+    putchar('\n');
+}
+
+static void show_right(const char *what, uint8_t right)
+{
+    static const struct {
+        uint8_t bit;
+        const char *word;
+    } words[] = { { FOR_ADMIN, "admin PIN" }, { FOR_USER, "user PIN" }, { FOR_DEVICE, "device" } };
+    const char *before = "";
+
+    printf("  %-5s  ", what);
+    if (right == 0)
+        fputs("anybody", stdout);
+    else if (right == FOR_NOBODY)
+        fputs("nobody, ever", stdout);
+    else
+        for (size_t i = 0; i < sizeof words / sizeof words[0]; i++)
+            if ((right & words[i].bit) != 0) {
+                printf("%s%s", before, words[i].word);
+                before = " and ";
+            }
+    putchar('\n');
+}
+
+static void show_file(const struct form_file *f)
+{
+    printf("\nfile %04X, short number %u: %s (type %02X)\n",
+           (unsigned)f->fid, short_number(f), type_name(f->type), (unsigned)f->type);
+    show_size(f);
+    show_right("read", f->read);
+    show_right("write", f->write);
+    show_holds(f);
+}
+
+void show_card(const struct form *f)
+{
+    show_credentials(f);
+    show_session(f);
+    show_room(f);
+    for (size_t i = 0; i < f->count; i++)
+        show_file(&f->files[i]);
+}
+
+void show_verdict(const char *path, bool accepted, const struct form *f)
+{
+    if (accepted) {
+        printf("%s: accepted\n", path);
+    } else if (f->wrong == NULL) {
+        printf("%s: refused\n", path);
+    } else {
+        printf("%s: refused, at line %zu (%s", path, f->line, f->part);
+        if (f->of != NO_FILE)
+            printf("%s %04X", f->part[0] == 'f' ? "" : " of file", (unsigned)f->of);
+        printf("): %s\n", f->wrong);
+    }
+}
