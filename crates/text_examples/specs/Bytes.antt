@@ -2,7 +2,7 @@
 use Prim.Native.Nat.{ℕ, zero, suc, _/_, _%_}
 use Prim.Native.Char.{Char, code}
 use Prim.Native.String.{String, [] as []ᶜ, _∷_ as _∷ᶜ_}
-use mathlib.Core.Bool.{Bool, true, false, cond, _&&_}
+use mathlib.Core.Bool.{Bool, true, false, cond, _&&_, _||_}
 use mathlib.Core.List.{List, [], _∷_, _++_}
 use lib.Dec.{eqb, leb}
 
@@ -30,3 +30,8 @@ equal [] [] = true
 equal [] (b ∷ bs) = false
 equal (a ∷ xs) [] = false
 equal (a ∷ xs) (b ∷ bs) = eqb a b && equal xs bs
+
+-- a number is in a list
+abbrev pub among : List ℕ → ℕ → Bool
+among [] n = false
+among (x ∷ xs) n = eqb x n || among xs n

@@ -10,3 +10,5 @@ pub mod Refusals
 pub mod Spoilt
 pub mod Longest
 pub mod Rows
+pub mod Spelling
+pub mod Order

@@ -1,12 +1,12 @@
 -- A text spoilt in one place: every place, every cut. All rights are held, so that tries and limits go together.
 use Prim.Native.Nat.{ℕ, zero, suc, _+_}
 use Prim.Native.String.{String}
-use mathlib.Core.Bool.{Bool, true, false, _&&_, _||_, not}
+use mathlib.Core.Bool.{Bool, true, false, _&&_, not}
 use mathlib.Core.List.{List, [], _∷_, _++_}
 use lib.Dec.{eqb}
 use lib.ListN.{take, drop, set}
 use Rattle.texts.specs.Calls.{accepted}
-use Rattle.text_examples.specs.Bytes.{chars, lines}
+use Rattle.text_examples.specs.Bytes.{chars, lines, among}
 use Rattle.text_examples.specs.Table.{Row, swept}
 
 -- 81 bytes, and 25 of a file behind them
@@ -26,10 +26,6 @@ agree false b = not b
 
 abbrev pub is : Bool → List ℕ → Bool
 is good s = agree good (accepted s)
-
-abbrev pub among : List ℕ → ℕ → Bool
-among [] n = false
-among (x ∷ xs) n = eqb x n || among xs n
 
 -- each of these bytes at an index of a text, of which some are good there
 abbrev pub each-of : List ℕ → List ℕ → ℕ → String → Bool
@@ -90,9 +86,9 @@ file-spoilt =
     ∷ bytes-of 2 (newline ∷ [])))
     ∷ []
 
--- a byte left out at an index, twice there, and a zero put in there
+-- a byte left out at an index, and one twice
 abbrev pub unlike : List ℕ → ℕ → Bool
-unlike s i = is false (take i s ++ drop (suc i) s) && (is false (take (suc i) s ++ drop i s) && is false (take i s ++ (48 ∷ drop i s)))
+unlike s i = is false (take i s ++ drop (suc i) s) && is false (take (suc i) s ++ drop i s)
 
 abbrev pub cut-and-more : List Row
 cut-and-more =
@@ -102,6 +98,9 @@ cut-and-more =
     -- changed anywhere
     ∷ swept 81 (λ i. unlike card-text i)
     ∷ swept 25 (λ i. unlike whole (81 + i))
+    -- a zero put in behind the PINs
+    ∷ swept 10 (λ i. is false (take (71 + i) card-text ++ (48 ∷ drop (71 + i) card-text)))
+    ∷ swept 25 (λ i. is false (card-text ++ take i file-text ++ (48 ∷ drop i file-text)))
     -- one byte more behind it
     ∷ swept 16 (λ b. is false (card-text ++ (b ∷ [])))
     ∷ []
