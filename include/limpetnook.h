@@ -42,7 +42,7 @@ extern "C" {
  *
  *   if (limpet_version() != LIMPET_VERSION) ... header and library do not match
  */
-#define LIMPET_VERSION 6
+#define LIMPET_VERSION 7
 
 uint32_t limpet_version(void);
 

@@ -76,6 +76,34 @@ static bool lengths_alone_are_bad(const struct limpet_card *card, const uint8_t 
     return is_sound((const uint8_t *)&c, area);
 }
 
+/* As where a library takes bit 2 of a rights byte for good by itself: whether nothing else is unsound. */
+static bool bit_2_alone_is_bad(const struct limpet_card *card, const uint8_t *area)
+{
+    struct layout c;
+
+    memcpy(&c, card, sizeof c);
+    for (size_t i = 0; i < FILES; i++) {
+        struct file *f = &c.directory.files[i];
+        f->read = f->read == 0x02 ? 0x00 : f->read;
+        f->write = f->write == 0x02 ? 0x00 : f->write;
+    }
+    return is_sound((const uint8_t *)&c, area);
+}
+
+/* As where a library still takes bit 2 for bad: whether a rights byte other than 0F has it. */
+static bool has_bit_2(const struct limpet_card *card)
+{
+    struct layout c;
+
+    memcpy(&c, card, sizeof c);
+    for (size_t i = 0; i < FILES; i++) {
+        const struct file *f = &c.directory.files[i];
+        if (((f->read & 0x02) != 0 && f->read != 0x0F) || ((f->write & 0x02) != 0 && f->write != 0x0F))
+            return true;
+    }
+    return false;
+}
+
 /* As where an append does not count the length byte. */
 static void count_one_less(struct limpet_card *card, unsigned sfi)
 {
@@ -174,6 +202,10 @@ uint8_t __wrap_limpet_command(struct limpet_card *card, uint8_t *area, size_t ar
         return LIMPET_OK;
     if (has_fault("lengths-not-looked-at") && outcome == LIMPET_UNSOUND && lengths_alone_are_bad(card, area))
         return LIMPET_OK;
+    if (has_fault("bit-2-good-by-itself") && outcome == LIMPET_UNSOUND && bit_2_alone_is_bad(card, area))
+        return LIMPET_OK;
+    if (has_fault("bit-2-still-bad") && served && has_bit_2(card))
+        return LIMPET_UNSOUND;
     if (has_fault("length-byte-not-counted") && served && command_len > 5 && command[1] == 0xE2)
         count_one_less(card, command[3] >> 3);
     return outcome;
@@ -196,6 +228,10 @@ uint8_t __wrap_limpet_reset(struct limpet_card *card, const uint8_t *area, size_
     if (has_fault("reset-takes-any-area") && outcome == LIMPET_BAD_AREA)
         return LIMPET_OK;
     if (has_fault("reset-unsound-before-area") && outcome == LIMPET_BAD_AREA && is_blank(card))
+        return LIMPET_UNSOUND;
+    if (has_fault("reset-bit-2-good-by-itself") && outcome == LIMPET_UNSOUND && bit_2_alone_is_bad(card, area))
+        return LIMPET_OK;
+    if (has_fault("reset-bit-2-still-bad") && outcome == LIMPET_OK && has_bit_2(card))
         return LIMPET_UNSOUND;
     if (has_fault("reset-lengths-not-looked-at") && outcome == LIMPET_UNSOUND && lengths_alone_are_bad(card, area))
         return LIMPET_OK;

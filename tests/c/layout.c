@@ -73,9 +73,10 @@ static bool sound_credentials(const struct layout *c)
     return true;
 }
 
+/* 0F, or some of the three rights, with bit 2 where one of them is enough: "bit 2 alone is bad". */
 static bool good_rights(uint8_t rights)
 {
-    return rights == 0x0F || (rights & ~0xC1) == 0;
+    return rights == 0x0F || ((rights & ~0xC3) == 0 && rights != 0x02);
 }
 
 unsigned file_size(const struct file *f)

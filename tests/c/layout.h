@@ -1,7 +1,8 @@
 /*
  * The bytes of a card, for tests alone: a caller has no business there. They
  * lie as the structs of crates/rules and crates/files have them. And what
- * document 01, "What a card holds", and request R-1 of document 02 say of them.
+ * document 01, "What a card holds", and requests R-1 and R-5 of document 02
+ * say of them.
  */
 #ifndef LAYOUT_H
 #define LAYOUT_H

@@ -1,4 +1,4 @@
-"""A second reading of document 01, with requests R-1 and R-2 of document 02: the card, in plain Python.
+"""A second reading of document 01, with requests R-1, R-2 and R-5 of document 02: the card, in plain Python.
 
 This model was written from the papers alone. It exists to be compared with the proved program, so it favours the
 order and the words of the papers over speed or cleverness, and shares nothing with the code that it is compared to.
@@ -112,8 +112,10 @@ BINARY, FIXED, VARIABLE, CYCLIC = 0x28, 0x2A, 0x2C, 0x2E
 RECORD_TYPES = (FIXED, VARIABLE, CYCLIC)
 LONGEST_RECORD = 178
 
-# Rights byte: bit 8 admin, bit 7 user, bit 1 device; every set bit must be held; 00 is free; 0F means never.
+# Rights byte: bit 8 admin, bit 7 user, bit 1 device; 00 is free; 0F means never. Every set bit must be held; where bit 2 is
+# set too, any one of them is enough.
 ADMIN_BIT, USER_BIT, DEVICE_BIT = 0x80, 0x40, 0x01
+ANY_BIT = 0x02
 NEVER = 0x0F
 
 NO_CHALLENGE = b""
@@ -229,21 +231,24 @@ def is_limit(limit):
 
 
 def is_bad_rights_byte(byte):
-    """Any bit set other than the three, apart from 0F."""
-    return byte != NEVER and byte & ~(ADMIN_BIT | USER_BIT | DEVICE_BIT) != 0
+    """Any bit set other than the three and bit 2, or bit 2 alone, apart from 0F."""
+    if byte == NEVER:
+        return False
+    return byte & ~(ADMIN_BIT | USER_BIT | DEVICE_BIT | ANY_BIT) != 0 or byte == ANY_BIT
 
 
 def is_allowed(card, byte):
     """Whether a rights byte lets the session pass."""
     if byte == NEVER:
         return False
-    if byte & ADMIN_BIT and not card.admin.held:
-        return False
-    if byte & USER_BIT and not card.user.held:
-        return False
-    if byte & DEVICE_BIT and not card.device.held:
-        return False
-    return True
+    asked = []
+    if byte & ADMIN_BIT:
+        asked.append(card.admin.held)
+    if byte & USER_BIT:
+        asked.append(card.user.held)
+    if byte & DEVICE_BIT:
+        asked.append(card.device.held)
+    return any(asked) if byte & ANY_BIT else all(asked)
 
 
 def is_file_shape(kind, size, count, length):

@@ -19,8 +19,9 @@ INS = {name: (cla, ins) for cla, ins, name, _ in cards.LIST}
 DIGITS = b"0123456789"
 ROOT = 0x3F00
 
-GOOD_RIGHTS = ((0x00, 44), (0x01, 11), (0x40, 11), (0x80, 11), (0x41, 4), (0x81, 4), (0xC0, 4), (0xC1, 4), (0x0F, 7))
-BAD_RIGHTS = (0x02, 0x04, 0x08, 0x10, 0x20, 0x0E, 0x0D, 0x1F, 0x4F, 0x8F, 0x03, 0x42, 0x82, 0xC2, 0xFE, 0xFF)
+GOOD_RIGHTS = ((0x00, 44), (0x01, 9), (0x40, 9), (0x80, 9), (0x41, 4), (0x81, 4), (0xC0, 4), (0xC1, 4), (0x0F, 7),
+               (0xC2, 8), (0x43, 5), (0x83, 5), (0xC3, 5), (0x03, 3), (0x42, 3), (0x82, 3))
+BAD_RIGHTS = (0x02, 0x02, 0x04, 0x08, 0x10, 0x20, 0x06, 0x0A, 0x0E, 0x0D, 0x12, 0x1F, 0x4F, 0x8F, 0xC6, 0xCF, 0xFE, 0xFF)
 BAD_TYPES = (0x00, 0x08, 0x27, 0x29, 0x2B, 0x2D, 0x2F, 0x38, 0x6A, 0xAC, 0xAE, 0xFF)
 NOT_DIGITS = (0x00, 0x2F, 0x3A, 0x20, 0x41, 0xB0, 0xB9, 0xFF, 0x0D)
 
@@ -321,10 +322,12 @@ class Generator:
         self.send(case_2("GET CHALLENGE", 0, p2, dice.pick((4, 8, 16, 4, 8, 16, 0, 1, 3, 5, 7, 9, 15, 17, 255))))
 
     def obtain(self, byte):
-        """Presents what a rights byte asks for, as far as tries are left."""
+        """Presents what a rights byte asks for, as far as tries are left. Where one of several is enough, mostly one."""
         card = self.card
         if byte == cards.NEVER:
             return
+        if byte & cards.ANY_BIT and self.dice.chance(0.8):
+            byte = self.dice.pick([bit for bit in (cards.ADMIN_BIT, cards.USER_BIT, cards.DEVICE_BIT) if byte & bit])
         if byte & cards.ADMIN_BIT and not card.admin.held and card.admin.tries:
             self.surely(case_3("VERIFY", 0, 0, card.admin.value))
         if byte & cards.USER_BIT and not card.user.held and card.user.tries:
@@ -757,7 +760,7 @@ class Generator:
         if space > self.room() or len(self.card.files) == cards.MOST_FILES:
             return
         self.obtain(cards.DEVICE_BIT)
-        right = dice.pick((0x00, 0x00, 0x01, 0x40, 0x80))
+        right = dice.pick((0x00, 0x00, 0x01, 0x40, 0x80, 0xC2))
         self.surely(case_3("CREATE FILE", dice.below(256), dice.below(8) << 5 | dice.pick(free),
                            bytes((cards.VARIABLE, space >> 8, space & 0xFF, right, right))))
         file = self.card.current
@@ -1091,6 +1094,8 @@ class Report:
         self.full_before = {}
         # How often Le 00 read a binary file, by the bytes from the offset to the end.
         self.left = Counter()
+        # How often a file's rights byte was asked, by the byte and the rights that were held.
+        self.asked = Counter()
         # How often a 2C record of each length was read, and the highest number that was.
         self.lengths = Counter()
         self.highest = 0
@@ -1138,6 +1143,9 @@ class Report:
         sfi = (frame.p1 & 0x1F if frame.p1 & 0x80 else 0) if "BINARY" in name else frame.p2 >> 3
         file = card.current if sw == 0x9000 else cards.named_file(card, sfi)
         label += " %02X" % file.kind
+        if sw != 0x6981:
+            byte = file.read if name.startswith("READ") else file.write
+            self.asked[byte, card.admin.held, card.user.held, card.device.held] += 1
         if name == "READ RECORD" and sw == 0x9000 and file.kind == cards.VARIABLE:
             self.highest = max(self.highest, frame.p1)
         if name == "READ BINARY" and frame.le == 256:
@@ -1175,6 +1183,8 @@ class Report:
         print("READ BINARY with Le 00: %s; %d with under 256 left, %d with more" % (
             ", ".join("%d with %d" % (self.left[left], left) for left in edges),
             sum(self.left[left] for left in self.left if left < 256), sum(self.left[left] for left in self.left if left > 256)))
+        print("rights bytes asked with sets of held rights: %d of %d pairs, the rarest %d times" % (
+            len(self.asked), 8 * len(GOOD_RIGHTS), min(self.asked.values(), default=0)))
         print("2C records read: %d lengths, %s; the highest number is %d" % (
             len(self.lengths), ", ".join("%d of %d" % (self.lengths[length], length) for length in (1, 177, 178)), self.highest))
         for entry in missing:

@@ -1,4 +1,4 @@
-"""Checks the model itself against document 01 and requests R-1, R-2 and R-4 of document 02: python3 tests/model/selftest.py
+"""Checks the model itself against document 01 and requests R-1, R-2, R-4 and R-5 of document 02: python3 tests/model/selftest.py
 
 The expected answers are worked out from the papers.
 """
@@ -264,7 +264,8 @@ def test_calls():
             (binary, "kind", 0x29), (binary, "size", 0), (binary, "size", 4097), (binary, "records", 1),
             (binary, "newest", 1), (fixed, "records", 1), (fixed, "newest", 1), (fixed, "count", 1), (fixed, "count", 255),
             (fixed, "length", 0), (fixed, "length", 179), (cyclic, "records", 3), (cyclic, "newest", 2),
-            (cyclic, "newest", 1), (binary, "read", 0x02), (cyclic, "write", 0x8F), (cyclic, "start", 19),
+            (cyclic, "newest", 1), (binary, "read", 0x02), (cyclic, "write", 0x8F), (binary, "write", 0x0E), (fixed, "read", 0x12),
+            (fixed, "write", 0xC6), (cyclic, "read", 0x02), (cyclic, "start", 19),
             (binary, "used", 1), (fixed, "used", 1), (cyclic, "used", 1), (variable, "records", 1), (variable, "newest", 1),
             (variable, "used", -1), (variable, "used", 1), (variable, "used", 2), (variable, "used", 3), (variable, "used", 5),
             (variable, "used", 9), (variable, "size", 1), (variable, "size", 3), (variable, "size", 4097),
@@ -273,6 +274,12 @@ def test_calls():
         kept = getattr(owner, field)
         setattr(owner, field, value)
         check("unsound with %s %r" % (field, value), cards.is_sound(held, area), False)
+        setattr(owner, field, kept)
+    for owner, field, value in ((binary, "read", 0xC2), (binary, "write", 0x82), (fixed, "read", 0x42), (cyclic, "write", 0x03),
+                                (variable, "read", 0xC3), (variable, "write", 0x0F)):
+        kept = getattr(owner, field)
+        setattr(owner, field, value)
+        check("sound with %s %02X" % (field, value), cards.is_sound(held, area), True)
         setattr(owner, field, kept)
     cyclic.records, cyclic.newest = 1, 1
     check("newest may be any place, also when not full", cards.is_sound(held, area), True)
@@ -650,10 +657,10 @@ def test_text_fields():
             (binary, 0, ("0101", "0105", "011E", "FF41", "0001", "3F01"),
              ("0102", "0202", "0222", "0144", "0100", "0120", "011F", "013F", "0000", "3F00", "101", "00101", "01", "", "-", "01e1",
               "01G1")),
-            (binary, 1, ("2800210001", "2800210F0F", "280021C1C1", "2800210000", "2800214080", "2C00210001"),
+            (binary, 1, ("2800210001", "2800210F0F", "280021C1C1", "2800210000", "2800214080", "280021C2C3", "2800210382", "2C00210001"),
              ("2800200001", "2800220001", "2800000001", "2810210001", "2821000001", "2700210001", "2900210001", "2B00210001",
               "2D00210001", "2F00210001", "0000210001", "2800210201", "2800210002", "280021000E", "2800211001", "28002100FE",
-              "2800218F00", "28002100", "280021000100", "28 0021 00 01", "", "-", "2800210c01", "2800210C01")),
+              "2800218F00", "2800211200", "28002100C6", "2800210A0A", "28002100", "280021000100", "28 0021 00 01", "", "-", "2800210c01", "2800210C01")),
             (binary, 2, ("0",), ("1", "33", "00", "", "-", "+0", "256")),
             (binary, 3, ("0",), ("1", "00", "", "-", "256")),
             (fixed, 1, ("2A02038000", "2A03028000", "2A06018000", "2800068000", "2C00068000", "2E02038000", "2E06018000"),
@@ -1009,26 +1016,53 @@ def test_read_to_end():
     check("GET CHALLENGE, Le 00", session.send("0084000000"), "6700")
 
 
+# What each good rights byte asks: any one of these sets of rights, held in full, opens the file. All other bytes are bad.
+NOTHING_ASKED, NEVER_OPEN = ("",), ()
+ASKED = {
+    0x00: NOTHING_ASKED, 0x0F: NEVER_OPEN,
+    # Without bit 2 all set bits are needed.
+    0x80: ("admin",), 0x40: ("user",), 0x01: ("device",), 0xC0: ("admin user",), 0x81: ("admin device",), 0x41: ("user device",),
+    0xC1: ("admin user device",),
+    # With it any one of the other set bits is enough. Bit 2 alone is bad.
+    0x82: ("admin",), 0x42: ("user",), 0x03: ("device",), 0xC2: ("admin", "user"), 0x83: ("admin", "device"),
+    0x43: ("user", "device"), 0xC3: ("admin", "user", "device"),
+}
+
+
 def test_rights():
-    good = [byte for byte in range(256) if not cards.is_bad_rights_byte(byte)]
-    check("good rights bytes", good, [0x00, 0x01, 0x0F, 0x40, 0x41, 0x80, 0x81, 0xC0, 0xC1])
-    for byte in good:
+    check("good rights bytes", [byte for byte in range(256) if not cards.is_bad_rights_byte(byte)], sorted(ASKED))
+    check("rights bytes in the readings", [byte in ASKED for byte in (0x82, 0x42, 0x03, 0x02, 0x8F)], [True] * 3 + [False] * 2)
+    for byte, asked in ASKED.items():
         session = device_session()
         check("create with %02X" % byte, session.send("80E00001 05 280001%02X%02X" % (byte, byte)), "9000")
+        session.send("80E00002 05 2E0201%02X%02X" % (byte, byte))
         for held in range(8):
             session.reset()
-            if held & 1:
-                session.log_in()
-            if held & 2:
-                session.user()
-            if held & 4:
-                session.admin()
-            mask = (0x01 if held & 1 else 0) | (0x40 if held & 2 else 0) | (0x80 if held & 4 else 0)
-            passes = byte != 0x0F and byte & ~mask == 0
-            check("read %02X with %02X" % (byte, mask), session.send("00B0810001"), "00 9000" if passes else "6982")
-            check("write %02X with %02X" % (byte, mask), session.send("00D681000100"), "9000" if passes else "6982")
-    for byte in (0x02, 0x0E, 0x10, 0x4F, 0x8F, 0xFF):
-        check("bad rights %02X" % byte, device_session().send("80E00001 05 280001%02X00" % byte), "6A80")
+            names = set()
+            for bit, name, present in ((1, "device", session.log_in), (2, "user", session.user), (4, "admin", session.admin)):
+                if held & bit:
+                    present()
+                    names.add(name)
+            passes = any(set(needed.split()) <= names for needed in asked)
+            shown = "%02X with %s" % (byte, " ".join(sorted(names)) or "nothing")
+            check("read " + shown, session.send("00B0810001"), "00 9000" if passes else "6982")
+            check("write " + shown, session.send("00D681000100"), "9000" if passes else "6982")
+            check("append " + shown, session.send("00E2001001AA"), "9000" if passes else "6982")
+            check("update " + shown, session.send("00DC011401BB"), "9000" if passes else "6982")
+            check("read a record " + shown, session.send("00B2011400"), "BB 9000" if passes else "6982")
+    session = device_session()
+    for byte in sorted(set(range(256)) - set(ASKED)):
+        check("bad read right %02X" % byte, session.send("80E00001 05 280001%02X00" % byte), "6A80")
+        check("bad write right %02X" % byte, session.send("80E00001 05 28000100%02X" % byte), "6A80")
+    session = device_session()
+    session.send("80E00001 05 280001C200")
+    session.reset()
+    session.admin()
+    session.user()
+    session.send("0020000106 303030303030")
+    check("one of two rights dropped", session.send("00B0810001"), "00 9000")
+    session.send("0020000008 3030303030303030")
+    check("both of two rights dropped", session.send("00B0810001"), "6982")
     session = device_session()
     session.send("80E00001 05 2800010080")
     check("two rights, read", session.send("00B0000001"), "00 9000")

@@ -249,8 +249,8 @@ def edge_cards():
     all_types = (b"00" * 16 + b"\t5\t5\n" + b"313233343536\t3\t2\n" + b"39" * 16 + b"\t128\t128\n1\t0\t1\t0104\t0011223344556677\n"
                  + file_lines(0x0101, b"\x28\x00\x21\x00\x01", 0, 0, bytes(range(33)))
                  + file_lines(0x0102, b"\x2A\x02\x03\x80\x00", 0, 0, bytes(range(6)))
-                 + file_lines(0x0103, b"\x2E\x03\x02\x40\x0F", 2, 2, bytes(range(6)))
-                 + file_lines(0x0104, b"\x2C\x00\x08\x00\x00", 5, 0, b"\x01\xAA\x02\xBB\xCC\x00\x00\xFF"))
+                 + file_lines(0x0103, b"\x2E\x03\x02\xC2\x0F", 2, 2, bytes(range(6)))
+                 + file_lines(0x0104, b"\x2C\x00\x08\x83\x42", 5, 0, b"\x01\xAA\x02\xBB\xCC\x00\x00\xFF"))
     smallest = FRESH + b"".join([file_lines(0x20 + number, b"\x28\x00\x01\x00\x00", 0, 0, b"\x77") for number in range(1, 17)])
     notes = FRESH + file_lines(0x0001, b"\x2C\x10\x00\x00\x00", 4096, 0, b"\x01\x31" * 2048)
     return FRESH, all_types, smallest, notes, longest

@@ -95,6 +95,7 @@ FILES = [
     "80E0A107052EFE080001", *(f"00E2000008{number:08X}01010001" for number in range(1, 256)),  # 254 records, and one more
     "80E0A108052E04080001", *(f"00E2000008{number:08X}01010001" for number in (8, 9, 1)),  # numbers that fall
     "80E0A109052C00400001", "00E20000056F696C6564",  # a note
+    "80E0A10A052E0408C201", "00E2000008000000010702000C",  # read with either PIN
 ]
 
 
@@ -110,6 +111,9 @@ def kinds_of_file():
         rows = table((7, 7, 2, 65535), (4, 7, 2, 257), (2, 7, 2, 255), (1, 7, 2, 1))
         missing = "missing: numbers 5 to 6\nmissing: number 3\n"
         printed("numbers that are missing", rows + missing, "--sfi", "5", "--admin", pin="87654321")
+        refused("either PIN, and none is given", "the user PIN is needed (6982)", "--file", "A10A")
+        printed("either PIN: the user PIN", table((1, 7, 2, 12)), "--file", "A10A", pin="123456")
+        printed("either PIN: the admin PIN", table((1, 7, 2, 12)), "--file", "A10A", "--admin", pin="87654321")
         rows = table((1, 1, 1, 1), (9, 1, 1, 1), (8, 1, 1, 1))
         printed("numbers that fall", rows + "falling: number 1 was written after number 9\n", "--sfi", "8")
         status, out, err = alarms("--sfi", "6")

@@ -5,14 +5,17 @@ A transcript is a block marked console. A line with $ is typed at the shell. Bel
 to scriptor, each when the one before is answered; the rest is what the terminal shows. What is typed without being shown stands
 in a remark before the block. Blanks at the end of a line do not count.
 
+A card with C2 for its alarms is made as the page says, and each PIN opens it.
+
 The table of status words has to be whole: each that a transcript shows is in it, and each that the rules name is on the page.
 """
 import glob
 import os
 import re
 import subprocess
+import tempfile
 
-from stack import ROOT, OpenscTool, Scriptor, Terminal, card, card_present, check, end, wait_until
+from stack import ROOT, SECONDS, OpenscTool, Scriptor, Terminal, card, card_present, check, end, wait_until
 
 PAGE = os.path.join(ROOT, "docs", "STANDBY.md")
 BLOCK = re.compile(r"(?:<!-- typed: (\S+) -->\n)?```console\n(.*?)```\n", re.DOTALL)
@@ -90,6 +93,37 @@ def transcripts():
                 check(f"transcript {number}, {command}", got == lines, first_difference(lines, got))
 
 
+def alarms_with(pin, *words):
+    """What tools/alarms says, on its output and of what is wrong."""
+    words = ["tools/alarms", *words, "--pin-from", "-"]
+    ended = subprocess.run(words, input=pin, capture_output=True, text=True, timeout=SECONDS, cwd=ROOT)
+    return ended.stdout + ended.stderr
+
+
+def either_pin():
+    """The card that the page has the reader make for practising with C2: each PIN opens the alarms, and none does not."""
+    line = re.search(r"^    (sed .* examples/box\.script) >office\.script$", page, re.MULTILINE)[1]
+    made = subprocess.run(["bash", "-c", line], cwd=ROOT, capture_output=True, text=True).stdout
+    check("the page changes one line of the box's script", made.count("\n") == 14 and "80E0A101052E0408C201" in made, made)
+    check("the page has the call for the office", "\n    tools/alarms --admin\n" in page)
+    table = re.search(r"^    number .*\n(?: .*\n){4}", page, re.MULTILINE)[0]
+    with tempfile.NamedTemporaryFile("w", prefix="limpet-office-", suffix=".script") as script:
+        script.write(made)
+        script.flush()
+        with card(script.name):
+            client = OpenscTool()
+            got = client.send("00B2010C00")
+            check("either PIN: none is shown", got == ("", "6982"), got)
+            for who, pin, words in (("the electrician", "123456", ()), ("the office", "87654321", ("--admin",))):
+                got = alarms_with(pin, *words)
+                check(f"either PIN: {who} reads the alarms", got == table, got)
+                client.reset()
+            got = alarms_with("111111")
+            check("either PIN: a wrong user PIN", "wrong user PIN (63C2)" in got, got)
+            got = alarms_with("87654321", "--admin")
+            check("either PIN: and the office reads all the same", got == table, got)
+
+
 def says(remark, *words, **environment):
     """The program says what the page says that it may say."""
     terminal = Terminal("env", *(f"{name}={value}" for name, value in environment.items()), *words)
@@ -138,5 +172,6 @@ def programs():
 status_words()
 service()
 transcripts()
+either_pin()
 programs()
 end()

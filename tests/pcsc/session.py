@@ -171,9 +171,32 @@ def change(ask):
     ask("00B2021C00", CORRECTED + "9000", "the notes are as they were before all resets")
 
 
+def either_pin(ask):
+    """After change: the user PIN is 246810."""
+    ask.reset()
+    ask("0082000010" + cryptogram(ask.challenge(8)), "9000", "the device login")
+    ask("80E0A104052E04080201", "6A80", "bit 2 alone is a bad rights byte")
+    ask("80E0A104052E0408C201", "9000", "cyclic, 4 records of 8, read admin or user, write device")
+    ask("00E2000008" + ALARMS[0], "9000", "the device right is held")
+    ask("00B2012400", "6982", "the device is neither of the two that are asked")
+    ask.reset()
+    ask("00B2012400", "6982", "neither PIN was shown")
+    ask("0020000106323436383130", "9000", "the user PIN is right")
+    ask("00B2012400", ALARMS[0] + "9000", "any one of the two is enough: the user PIN")
+    ask.reset()
+    ask("00B2012400", "6982", "the reset dropped the user right")
+    ask("00200000083837363534333231", "9000", "the admin PIN is right")
+    ask("00B2012400", ALARMS[0] + "9000", "any one of the two is enough: the admin PIN")
+    ask("00B2010C00", "6982", "the admin PIN does not open what asks for the user PIN alone")
+    ask("0020000106313131313131", "63C2", "a wrong user PIN costs a try")
+    ask("00B2012400", ALARMS[0] + "9000", "and the admin right is still held")
+    ask("0020000006313131313131", "63C4", "a wrong admin PIN costs one of five tries")
+    ask("00B2012400", "6982", "and drops the admin right, so neither is held")
+
+
 def session(client):
     ask = Asking(client)
-    for part in (before_login, login, alarm_file, longest, notes, blocked, reload, change):
+    for part in (before_login, login, alarm_file, longest, notes, blocked, reload, change, either_pin):
         part(ask)
 
 

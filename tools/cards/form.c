@@ -180,7 +180,7 @@ static bool good_size(const struct form_file *f)
 
 static bool good_rights(uint8_t rights)
 {
-    return rights == FOR_NOBODY || (rights & ~(FOR_ADMIN | FOR_USER | FOR_DEVICE)) == 0;
+    return rights == FOR_NOBODY || ((rights & ~(FOR_ADMIN | FOR_USER | FOR_DEVICE | ANY_ONE)) == 0 && rights != ANY_ONE);
 }
 
 static const char *wrong_counts(const struct form_file *f)
@@ -226,7 +226,7 @@ static const char *wrong_file(const struct form *form, const struct form_file *f
     if (!good_size(f))
         return "its two size bytes are not good for its type";
     if (!good_rights(f->read) || !good_rights(f->write))
-        return "a rights byte is not 0F, and has a bit that is none of 80, 40 and 01";
+        return "a rights byte is not 0F, and is 02 or has a bit that is none of 80, 40, 02 and 01";
     wrong = wrong_counts(f);
     return wrong != NULL ? wrong : wrong_among(form, f);
 }

@@ -12,7 +12,8 @@
 enum { DEVICE_KEY, ADMIN_PIN, USER_PIN, CREDENTIALS };
 enum { MOST_FILES = 16, NO_FILE = -1 };
 enum { BINARY = 0x28, FIXED = 0x2A, VARIABLE = 0x2C, CYCLIC = 0x2E };
-enum { FOR_ADMIN = 0x80, FOR_USER = 0x40, FOR_DEVICE = 0x01, FOR_NOBODY = 0x0F };
+/* Of a rights byte: those who have to be there, all of them or, with ANY_ONE, one of them. */
+enum { FOR_ADMIN = 0x80, FOR_USER = 0x40, FOR_DEVICE = 0x01, ANY_ONE = 0x02, FOR_NOBODY = 0x0F };
 
 struct form_credential {
     uint16_t limit, left;

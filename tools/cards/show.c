@@ -98,7 +98,7 @@ static void show_right(const char *what, uint8_t right)
         uint8_t bit;
         const char *word;
     } words[] = { { FOR_ADMIN, "admin PIN" }, { FOR_USER, "user PIN" }, { FOR_DEVICE, "device" } };
-    const char *before = "";
+    const char *before = "", *between = (right & ANY_ONE) != 0 ? " or " : " and ";
 
     printf("  %-5s  ", what);
     if (right == 0)
@@ -109,7 +109,7 @@ static void show_right(const char *what, uint8_t right)
         for (size_t i = 0; i < sizeof words / sizeof words[0]; i++)
             if ((right & words[i].bit) != 0) {
                 printf("%s%s", before, words[i].word);
-                before = " and ";
+                before = between;
             }
     putchar('\n');
 }

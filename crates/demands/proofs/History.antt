@@ -1,19 +1,20 @@
 -- Files over any list of calls after a served issue, with the rights of the ledger.
 use Prim.Native.Nat.{ℕ, _+_, _/_, _%_, _≤_}
-use mathlib.Core.Bool.{Bool, true, false, cond, not}
+use mathlib.Core.Bool.{Bool, true, false, cond, _||_, not}
 use mathlib.Core.List.{List, [], _∷_, _++_}
-use mathlib.Core.Logic.{_⊎_, inl, inr, ⊎-elim}
+use mathlib.Core.Logic.{_⊎_, inl, inr, ⊎-elim, by-cases}
 use mathlib.Core.Path.{_≡_, refl, sym, ap, _∙_}
+use native.Mathlib.Decide.{decLt}
 use native.Mathlib.Omega.{arith}
 use lib.ListN.{length}
 use lib.Dec.{eqb, leb}
-use borrow.Author.Tests.{eqb-true, eqb-false, not-true}
+use borrow.Author.Tests.{eqb-true, eqb-false, eq-eqb, ne-eqb, not-true}
 use Rattle.files.specs.declared.File.{File}
 use Rattle.files.specs.declared.Directory.{Directory}
 use Rattle.files.specs.State.{emptied}
 use Rattle.files.specs.Part.{over, zeros, splice}
 use Rattle.files.specs.Types.{size}
-use Rattle.files.specs.Rights.{never, asks, allowed}
+use Rattle.files.specs.Rights.{never, adminBit, userBit, deviceBit, anyBit, asks, allHeld, grants, anyHeld, allowed}
 use Rattle.files.specs.Directory.{used, start, extent, isPlace, inArea}
 use Rattle.files.specs.Record.{bytesUsed}
 use Rattle.files.specs.Words.{isZero, two}
@@ -41,7 +42,7 @@ use Rattle.rules.proofs.Good.{sound-good, sound-parted}
 use Rattle.rules.proofs.Targets.{used-count, place-named}
 use Rattle.demands.specs.Ledger.{Event, sent, resets, isHeld, Label, labelGiven, sizeOf, makeChecks, labelIn, Ledger, page, createSw, servable, ledger}
 use Rattle.demands.specs.Run.{World, world, called, after}
-use Rattle.demands.specs.Files.{writesTo, readsFrom, labelOf, Labelled, FilesFollow, CreateAnswers, Opens, Written, Read, Writes, Stays, Altered, AlikeBut, SameBut, Shown, Made, Makes, Created}
+use Rattle.demands.specs.Files.{writesTo, readsFrom, labelOf, Labelled, FilesFollow, CreateAnswers, bitOf, OneHeld, Opens, Written, Read, Writes, Stays, Altered, AlikeBut, SameBut, Shown, Made, Makes, Created}
 use Rattle.demands.proofs.Labels.{label-size, each-at, create-same}
 use Rattle.demands.proofs.Rows.{Fair, by-rule}
 use Rattle.demands.proofs.Soundness.{leaves, step-sound}
@@ -55,20 +56,48 @@ use Rattle.demands.proofs.Others.{found-same, sound-same}
 asked-one : (bit : ℕ) (held : Bool) → asks bit held ≡ true → bit ≡ 1 → held ≡ true
 asked-one bit held h e = one-of (isZero bit) held h (λ z. absurd (omega (arith, e, eqb-true bit 0 z))) (λ z. z)
 
+-- a bit that grants is set, and its right is held
+granted-one : (n : ℕ) (held : Bool) → grants (n % 2) held ≡ true → (n % 2 ≡ 1) × (held ≡ true)
+granted-one n held h =
+    let e = both (not (isZero (n % 2))) held h in
+    let z : n % 2 ≡ 0 → ⊥ = eqb-false (n % 2) 0 (not-true (isZero (n % 2)) (e .0)) in
+    (by-cases (decLt (n % 2) 1) (λ k. absurd (z (omega arith))) (λ k. omega arith), e .1)
+
 -- what the card opens the ledger opens
 module _ (c : Card) (l : Ledger) (agree : Agree c l) where
   held-told : (w : Which) → login w c .held ≡ true → isHeld (page w l .history) ≡ true
   held-told w h = sym (ap (λ (x : Login). x .held) (agree .logins-are w)) ∙ h
 
+  -- all that the byte asks
+  all-told : (right : ℕ) → allHeld (login device c .held) (login admin c .held) (login user c .held) right ≡ true → (w : Which) → bitOf w right ≡ 1 → isHeld (page w l .history) ≡ true
+  unfolding allHeld
+  all-told right h = go (each (asks (adminBit right) (login admin c .held) ∷ asks (userBit right) (login user c .held) ∷ asks (deviceBit right) (login device c .held) ∷ []) h)
+    where
+      go : (asks (adminBit right) (login admin c .held) ≡ true) × ((asks (userBit right) (login user c .held) ≡ true) × (asks (deviceBit right) (login device c .held) ≡ true))
+          → (w : Which) → bitOf w right ≡ 1 → isHeld (page w l .history) ≡ true
+      go e device q = held-told device (asked-one _ _ (e .1 .1) q)
+      go e admin q = held-told admin (asked-one _ _ (e .0) q)
+      go e user q = held-told user (asked-one _ _ (e .1 .0) q)
+
+  -- or one of them
+  one-told : (right : ℕ) → anyHeld (login device c .held) (login admin c .held) (login user c .held) right ≡ true → OneHeld l right
+  unfolding anyHeld
+  one-told right h =
+      one-of (grants (adminBit right) (login admin c .held)) (grants (userBit right) (login user c .held) || grants (deviceBit right) (login device c .held)) h
+      (λ z. let k = granted-one (right / 128) (login admin c .held) z in record { which = admin; asked = k .0; held = held-told admin (k .1) })
+      (λ y. one-of (grants (userBit right) (login user c .held)) (grants (deviceBit right) (login device c .held)) y
+      (λ z. let k = granted-one (right / 64) (login user c .held) z in record { which = user; asked = k .0; held = held-told user (k .1) })
+      (λ z. let k = granted-one right (login device c .held) z in record { which = device; asked = k .0; held = held-told device (k .1) }))
+
   opens-told : (right : ℕ) → opens c right ≡ true → Opens l right
   unfolding allowed
   opens-told right h =
-      let e = each (not (eqb right never) ∷ asks (right / 128 % 2) (login admin c .held) ∷ asks (right / 64 % 2) (login user c .held)
-      ∷ asks (right % 2) (login device c .held) ∷ []) h in
+      let all = allHeld (login device c .held) (login admin c .held) (login user c .held) right in
+      let any = anyHeld (login device c .held) (login admin c .held) (login user c .held) right in
+      let e = each (not (eqb right never) ∷ cond (isZero (anyBit right)) all any ∷ []) h in
       record {
-        admin = λ q. held-told admin (asked-one _ _ (e .1 .0) q);
-        user = λ q. held-told user (asked-one _ _ (e .1 .1 .0) q);
-        device = λ q. held-told device (asked-one _ _ (e .1 .1 .1) q);
+        all = λ q. all-told right (rw (eq-eqb (anyBit right) 0 q) at (e .1));
+        any = λ q. one-told right (rw (ne-eqb (anyBit right) 0 (λ z. omega (arith, q, z))) at (e .1));
         not-never = λ q. eqb-false right never (not-true (eqb right never) (e .0)) q;
       }
 

@@ -12,7 +12,7 @@ use Rattle.cipher.specs.Cipher.{roundKey, fullRound, lastRound, rounds, cipher,
 use Rattle.files.specs.Words.{allBelow}
 use Rattle.files.specs.Part.{part, splice, over}
 use Rattle.files.specs.Types.{count, recordLength, size, goodShape}
-use Rattle.files.specs.Rights.{allowed, goodRights}
+use Rattle.files.specs.Rights.{allHeld, anyHeld, allowed, goodRights}
 use Rattle.files.specs.Directory.{used, startAt, extent, isPlace, inArea, seek, findFid, findSfi}
 use Rattle.files.specs.Record.{back, next, bytesUsed, placesHeld, placeOf, recordsHeld, startOf, lengthOf, located, locatedIn, nextPlace, nextStart, entry, appended, soundHeld, soundUsed, partedFile, isRecord, hasRoom}
 use Rattle.files.specs.Walk.{stands, past, walk, parted, standing}
@@ -48,7 +48,7 @@ use Rattle.edges.specs.FrameRanges.{class-bytes, ins-bytes, frame-length
 use Rattle.edges.specs.ParameterRanges.{p-of-files, p-of-credentials, sfis}
 use Rattle.edges.specs.LengthRanges.{lc-bytes, le-bytes}
 use Rattle.edges.specs.OffsetRanges.{offsets}
-use Rattle.edges.specs.RightsRanges.{rights-created, rights-asked}
+use Rattle.edges.specs.RightsRanges.{rights-created, rights-asked, rights-table}
 use Rattle.edges.specs.PinRanges.{pin-digits, pin-tries, orders, staying}
 use Rattle.edges.specs.LoginRanges.{cryptograms, login-of-4, login-of-8}
 use Rattle.edges.specs.NoteRanges.{note-lengths, note-reads, ends}
@@ -57,7 +57,7 @@ use Rattle.edges.specs.Edges.{edges, EachHolds}
 
 -- whether rows hold, by computation: to unfold this is to unfold every rule that a row may need
 computed : List Edge → Bool
-unfolding xPower square squares inverse sbox mixColumn expanded keyExpansion roundKey fullRound lastRound rounds cipher aes128 allBelow part splice over count recordLength size goodShape allowed goodRights used startAt extent isPlace inArea seek findFid findSfi back next bytesUsed placesHeld placeOf recordsHeld startOf lengthOf located locatedIn nextPlace nextStart entry appended soundHeld soundUsed partedFile isRecord hasRoom stands past walk parted standing goodContents sfiUnused room created soundFile unusedPlace sfisDiffer soundDirectory partedArea orElse allOf same goodPin goodValue soundValue soundTries soundCredential soundChallenge soundState sound caseOf framed rows find listed rule selectChecks target readCount readBinaryChecks updateBinaryChecks recordFound readRecordChecks updateRecordChecks appendChecks comparedAt verifyChecks changeChecks reloadChecks authenticateChecks getChallengeChecks fileGiven createChecks checks effectOf outcome settled step command reset goodOrder issue
+unfolding xPower square squares inverse sbox mixColumn expanded keyExpansion roundKey fullRound lastRound rounds cipher aes128 allBelow part splice over count recordLength size goodShape allHeld anyHeld allowed goodRights used startAt extent isPlace inArea seek findFid findSfi back next bytesUsed placesHeld placeOf recordsHeld startOf lengthOf located locatedIn nextPlace nextStart entry appended soundHeld soundUsed partedFile isRecord hasRoom stands past walk parted standing goodContents sfiUnused room created soundFile unusedPlace sfisDiffer soundDirectory partedArea orElse allOf same goodPin goodValue soundValue soundTries soundCredential soundChallenge soundState sound caseOf framed rows find listed rule selectChecks target readCount readBinaryChecks updateBinaryChecks recordFound readRecordChecks updateRecordChecks appendChecks comparedAt verifyChecks changeChecks reloadChecks authenticateChecks getChallengeChecks fileGiven createChecks checks effectOf outcome settled step command reset goodOrder issue
 computed = allHold
 
 pub starred-hold : allHold starred ≡ true
@@ -164,6 +164,10 @@ pub rights-asked-hold : allHold rights-asked ≡ true
 unfolding computed
 rights-asked-hold = refl
 
+pub rights-table-hold : allHold rights-table ≡ true
+unfolding computed
+rights-table-hold = refl
+
 pub pin-digits-hold : allHold pin-digits ≡ true
 unfolding computed
 pin-digits-hold = refl
@@ -222,4 +226,4 @@ sound-cards-hold = refl
 
 pub edges-hold : EachHolds edges
 edges-hold =
-    (starred-hold, (framing-hold, (selecting-hold, (binaries-hold, (recording-hold, (variables-hold, (holding-rights-hold, (pins-hold, (devices-hold, (creating-hold, (calls-hold, (credentials-hold, (directories-hold, (sessions-hold, (login-hold, (class-bytes-hold, (ins-bytes-hold, (frame-lengths-hold, (p-of-files-hold, (p-of-credentials-hold, (sfis-hold, (lc-bytes-hold, (le-bytes-hold, (offsets-hold, (rights-created-hold, (rights-asked-hold, (pin-digits-hold, (pin-tries-hold, (orders-hold, (staying-hold, (cryptograms-hold, (login-of-4-hold, (login-of-8-hold, (note-lengths-hold, (note-reads-hold, (ends-hold, (unsound-credentials-hold, (unsound-directories-hold, (unsound-sessions-hold, (sound-cards-hold, tt))))))))))))))))))))))))))))))))))))))))
+    (starred-hold, (framing-hold, (selecting-hold, (binaries-hold, (recording-hold, (variables-hold, (holding-rights-hold, (pins-hold, (devices-hold, (creating-hold, (calls-hold, (credentials-hold, (directories-hold, (sessions-hold, (login-hold, (class-bytes-hold, (ins-bytes-hold, (frame-lengths-hold, (p-of-files-hold, (p-of-credentials-hold, (sfis-hold, (lc-bytes-hold, (le-bytes-hold, (offsets-hold, (rights-created-hold, (rights-asked-hold, (rights-table-hold, (pin-digits-hold, (pin-tries-hold, (orders-hold, (staying-hold, (cryptograms-hold, (login-of-4-hold, (login-of-8-hold, (note-lengths-hold, (note-reads-hold, (ends-hold, (unsound-credentials-hold, (unsound-directories-hold, (unsound-sessions-hold, (sound-cards-hold, tt)))))))))))))))))))))))))))))))))))))))))

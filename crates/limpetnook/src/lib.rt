@@ -30,7 +30,7 @@ pub extern "C" fn limpet_card_size() -> usize
 pub extern "C" fn limpet_version() -> u32
     ensures { λ r. ⌜ r ≡ version ⌝ }
 {
-    6
+    7
 }
 
 // One block of AES-128.
