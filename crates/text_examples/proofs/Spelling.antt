@@ -1,12 +1,12 @@
 -- Every accepted text is spelt as one.
 -- Assumes nothing.
 use Prim.Native.Nat.{ℕ, zero, suc, _+_, _-_, _*_, _/_, _%_, _≤_, _<_}
-use mathlib.Core.Bool.{Bool, true, false, cond, _&&_, _||_, not}
+use mathlib.Core.Bool.{Bool, true, false}
 use mathlib.Core.List.{List, [], _∷_, _++_, append-assoc}
 use mathlib.Core.Path.{_≡_, refl, sym, ap, _∙_}
 use native.Mathlib.Omega.{arith}
 use lib.Dec.{eqb, ltb}
-use lib.ListN.{length, take, drop, length-take, length-drop, length-append}
+use lib.ListN.{length, take, drop, length-take, length-drop}
 use borrow.Author.Tests.{eqb-true}
 use Rattle.files.specs.declared.File.{File}
 use Rattle.files.specs.Words.{allBelow, isZero}
@@ -17,9 +17,9 @@ use Rattle.rules.specs.declared.Credential.{Credential}
 use Rattle.rules.specs.declared.Card.{Card}
 use Rattle.rules.specs.Words.{allOf}
 use Rattle.rules.specs.State.{credential, rightKept, valueOf, challenge}
-use Rattle.digits.specs.Digits.{newline, ended, lastDigit, places, decimal, hexDigit, hexByte, hexOf, orDash}
+use Rattle.digits.specs.Digits.{newline, ended, lastDigit, places, decimal, hexDigit, hexOf, orDash}
 use Rattle.texts.specs.Text.{line, credentialLine, credentialLines, currentFid, sessionLine, fidBytes, createBytes, heldOrUsed, fileLine, rows, linesFor, contents, filesText, text}
-use Rattle.texts.specs.Laws.{Bytes, FileBytes, CardBytes, SoundCard, TextOf}
+use Rattle.texts.specs.Laws.{Bytes, FileBytes, CardBytes}
 use Rattle.texts.proofs.Cards.{bytes-nil, bytes-cons, fid-bytes}
 use Rattle.texts.proofs.Contents.{bytes-drop, bytes-take, hexOf-length}
 use Rattle.texts.proofs.Exact.{accepted-text}

@@ -102,6 +102,6 @@ sessions-written =
     ∷ with-rights 9 (hex 0x1_00112233445566778899AABBCCDDEEFF) (chars "00112233445566778899AABBCCDDEEFF")
     ∷ with-rights 1 (replicate 4 0) (chars "00000000")
     ∷ with-rights 0 (replicate 16 0) (chars "00000000000000000000000000000000")
-    -- each byte in each place of one
+    -- every byte at both ends of one
     ∷ swept 256 (λ b. session-is 5 3 (b ∷ 1 ∷ 2 ∷ (255 - b) ∷ []) (digits (b ∷ 1 ∷ 2 ∷ (255 - b) ∷ [])))
     ∷ []

@@ -40,10 +40,10 @@ file-lines =
     -- each of the seven bytes with every value, and so every type
     swept 256 (λ b. new-is b (after 37 b) (after 74 b) (after 111 b) (after 148 b) (after 185 b) (after 222 b))
     -- all records held and all newest places
-    ∷ swept 1 (λ o. counted 254 (λ n d. held-is n 0 d (chars "0") && (held-is 254 n (chars "254") d && held-is n n d d)))
-    -- all used bytes; in the line those around each power of ten and of two
+    ∷ swept 1 (λ o. counted 254 (λ n d. held-is n 0 d (chars "0") && held-is 254 n (chars "254") d))
+    -- all used bytes; in the line those up to 130, around 1,000 and up to 4,096
     ∷ swept 4097 (λ n. eqb (heldOrUsed (withUsed (newFile 0xA1 0x03 0x2C 16 0 0x40 0x80) n)) n)
-    ∷ swept 1 (λ o. counted 300 used-is)
+    ∷ swept 1 (λ o. counted 130 used-is)
     ∷ swept 1 (λ o. counting 60 980 (chars "089") used-is)
     ∷ swept 1 (λ o. counting 17 4080 (chars "0804") used-is)
     ∷ []
@@ -55,9 +55,9 @@ line-counts = swept 4097 (λ n. leb n (linesFor n * 32) && leb (linesFor n * 32)
 abbrev pub is-dump : List ℕ → Bool
 is-dump bytes = equal (contents bytes) (dump bytes)
 
--- each number of bytes up to four lines
+-- each number of bytes up to two lines and some more; `AsDumped` says it of all
 abbrev pub contents-written : List Row
-contents-written = swept 131 (λ n. is-dump (take n told)) ∷ []
+contents-written = swept 70 (λ n. is-dump (take n told)) ∷ []
 
 abbrev pub front : List ℕ
 front = lines ("000102030405060708090A0B0C0D0E0F\t128\t128" ∷ "3837363534333231\t5\t5" ∷ "313233343536\t3\t3" ∷ "0\t0\t0\t-\t-" ∷ [])
@@ -75,10 +75,7 @@ abbrev pub notes : ℕ → List ℕ → List ℕ
 notes zero tail = tail
 notes (suc n) tail = 178 ∷ replicate 178 0x61 ++ notes n tail
 
--- 1,000 bytes in records of different lengths, and 4,096
-abbrev pub thousand : List ℕ
-thousand = notes 5 (104 ∷ replicate 104 0x62)
-
+-- 4,096 bytes of records
 abbrev pub full-notes : List ℕ
 full-notes = notes 22 (157 ∷ replicate 157 0x62)
 
@@ -96,6 +93,5 @@ files-written =
     -- the largest ones
     ∷ one-file (newFile 0xA1 0x02 0x28 16 0 0x00 0x40) told "A102\t2810000040\t0\t0"
     ∷ one-file (withUsed (newFile 0xA1 0x03 0x2C 16 0 0x40 0x40) 4096) full-notes "A103\t2C10004040\t4096\t0"
-    ∷ one-file (withNewest (newFile 0xA1 0x01 0x2E 254 16 0x40 0x01) 254 253) (take 4064 told) "A101\t2EFE104001\t254\t253"
-    ∷ one-file (withUsed (newFile 0xA1 0x03 0x2C 3 232 0x40 0x40) 1000) thousand "A103\t2C03E84040\t1000\t0"
+    ∷ one-file (withNewest (newFile 0xA1 0x01 0x2E 254 1 0x40 0x01) 254 253) (take 254 told) "A101\t2EFE014001\t254\t253"
     ∷ []

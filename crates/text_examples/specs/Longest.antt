@@ -9,9 +9,8 @@ use Rattle.files.specs.State.{newFile, withNewest}
 use Rattle.rules.specs.declared.Card.{Card}
 use Rattle.rules.specs.Sound.{sound}
 use Rattle.texts.specs.Text.{text}
-use Rattle.texts.specs.Calls.{toText}
 use Rattle.text_examples.specs.Bytes.{hex}
-use Rattle.text_examples.specs.Table.{Row, unwritten, swept, filler}
+use Rattle.text_examples.specs.Table.{Row, swept}
 use Rattle.text_examples.specs.Cards.{credential, pin, session, card, told, key}
 
 -- so many files of 129 records of 2 bytes, of SFI n down to 1
@@ -29,12 +28,5 @@ longest-card =
 abbrev pub measured : Bool
 measured = sound longest-card told && eqb (length (text longest-card told)) 8886
 
--- a buffer of so many bytes is enough, and one of a byte less is not
-abbrev pub longest-written : List Row
-longest-written =
-    swept 1 (λ o. let w = toText longest-card told (filler 8886) in eqb (w .answer .outcome) 0 && eqb (w .answer .n) 8886)
-    ∷ unwritten longest-card told 8885 10
-    ∷ []
-
 abbrev pub longest-text : List Row
-longest-text = swept 1 (λ o. measured) ∷ longest-written
+longest-text = swept 1 (λ o. measured) ∷ []

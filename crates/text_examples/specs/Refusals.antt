@@ -1,6 +1,7 @@
 -- Refusals in their order, and what stays as it was.
 use Prim.Native.Nat.{ℕ, _+_, _*_}
 use Prim.Native.String.{String}
+use mathlib.Core.Bool.{false}
 use mathlib.Core.List.{List, [], _∷_, _++_}
 use lib.ListN.{drop}
 use Rattle.files.specs.State.{newFile, withUsed}
@@ -8,7 +9,7 @@ use Rattle.rules.specs.declared.Card.{Card}
 use Rattle.rules.specs.State.{blankCard}
 use Rattle.texts.specs.Calls.{toText}
 use Rattle.text_examples.specs.Bytes.{lines}
-use Rattle.text_examples.specs.Table.{Row, unwritten, unread, swept, filler, writes}
+use Rattle.text_examples.specs.Table.{Row, unwritten, unread, swept, is, filler, writes}
 use Rattle.text_examples.specs.Cards.{session, told, holder}
 
 -- a card whose text has 89 bytes
@@ -72,9 +73,9 @@ user-line = "313233343536\t3\t3"
 abbrev pub session-line : String
 session-line = "1\t1\t1\t-\t-"
 
--- a text that is refused by 11
+-- a text that is not accepted
 abbrev pub bad : List String → Row
-bad ls = unread (lines ls) 4096 11
+bad ls = swept 1 (λ o. is false (lines ls))
 
 -- as those of plain, but for one line
 abbrev pub bad-device : String → Row

@@ -1,13 +1,13 @@
--- A text spoilt in one place: every place, every cut. All rights are held, so that tries and limits go together.
+-- A text spoilt in one place, in every place of it. All rights are held, so that tries and limits go together. What holds of every spoilt text is
+-- in `Spelling`.
 use Prim.Native.Nat.{ℕ, zero, suc, _+_}
 use Prim.Native.String.{String}
-use mathlib.Core.Bool.{Bool, true, false, _&&_, not}
+use mathlib.Core.Bool.{Bool, true, false, _&&_}
 use mathlib.Core.List.{List, [], _∷_, _++_}
 use lib.Dec.{eqb}
 use lib.ListN.{take, drop, set}
-use Rattle.texts.specs.Calls.{accepted}
 use Rattle.text_examples.specs.Bytes.{chars, lines, among}
-use Rattle.text_examples.specs.Table.{Row, swept}
+use Rattle.text_examples.specs.Table.{Row, swept, is}
 
 -- 81 bytes, and 25 of a file behind them
 abbrev pub card-text : List ℕ
@@ -18,14 +18,6 @@ file-text = lines ("A101\t2E02010000\t1\t1" ∷ "ABCD" ∷ [])
 
 abbrev pub whole : List ℕ
 whole = card-text ++ file-text
-
--- a text is accepted, or is not
-abbrev pub agree : Bool → Bool → Bool
-agree true b = b
-agree false b = not b
-
-abbrev pub is : Bool → List ℕ → Bool
-is good s = agree good (accepted s)
 
 -- each of these bytes at an index of a text, of which some are good there
 abbrev pub each-of : List ℕ → List ℕ → ℕ → String → Bool
@@ -38,7 +30,7 @@ pub data Place : Type 0 where
 
 abbrev pub tried : List ℕ → ℕ → Place → Bool
 tried s i (digit good) = each-of (chars "F\t") s i good
-tried s i (other good) = each-of (chars "01F-\t\n") s i good
+tried s i (other good) = each-of (chars "01F\t") s i good
 
 -- at each index from one on, what may stand there
 abbrev pub each-place : List ℕ → ℕ → List Place → Bool
@@ -86,21 +78,21 @@ file-spoilt =
     ∷ bytes-of 2 (newline ∷ [])))
     ∷ []
 
--- a byte left out at an index, and one twice
-abbrev pub unlike : List ℕ → ℕ → Bool
-unlike s i = is false (take i s ++ drop (suc i) s) && is false (take (suc i) s ++ drop i s)
+-- a text without the byte at an index
+abbrev pub without : List ℕ → ℕ → List ℕ
+without s i = take i s ++ drop (suc i) s
 
 abbrev pub cut-and-more : List Row
 cut-and-more =
-    -- cut anywhere; behind the session's line what is left is the text of a card without files
-    swept 81 (λ n. is false (take n card-text))
+    -- cut behind a line, and anywhere in the file; behind the session's line what is left is the text of a card without files
+    swept 1 (λ o. is false [] && (is false (take 37 card-text) && (is false (take 54 card-text) && is false (take 71 card-text))))
     ∷ swept 25 (λ n. is (eqb n 0) (card-text ++ take n file-text))
-    -- changed anywhere
-    ∷ swept 81 (λ i. unlike card-text i)
-    ∷ swept 25 (λ i. unlike whole (81 + i))
+    -- a byte left out anywhere, and in the file one twice
+    ∷ swept 81 (λ i. is false (without card-text i))
+    ∷ swept 25 (λ i. is false (card-text ++ without file-text i) && is false (card-text ++ take (suc i) file-text ++ drop i file-text))
     -- a zero put in behind the PINs
     ∷ swept 10 (λ i. is false (take (71 + i) card-text ++ (48 ∷ drop (71 + i) card-text)))
     ∷ swept 25 (λ i. is false (card-text ++ take i file-text ++ (48 ∷ drop i file-text)))
     -- one byte more behind it
-    ∷ swept 16 (λ b. is false (card-text ++ (b ∷ [])))
+    ∷ swept 1 (λ o. is false (card-text ++ (0 ∷ [])) && (is false (card-text ++ (9 ∷ [])) && (is false (card-text ++ (10 ∷ [])) && is false (card-text ++ (13 ∷ [])))))
     ∷ []

@@ -1,16 +1,15 @@
 -- The table's rows and when one holds. What a row expects is put in words of its own, and not in those of the definitions that it tests.
 use Prim.Native.Nat.{ℕ, zero, suc, _+_, _-_}
-use mathlib.Core.Bool.{Bool, true, _&&_}
+use mathlib.Core.Bool.{Bool, true, false, _&&_, not}
 use mathlib.Core.List.{List, [], _∷_, _++_}
 use lib.Dec.{eqb}
 use lib.ListN.{length, replicate}
 use Rattle.files.specs.declared.File.{File}
-use Rattle.rules.specs.declared.Tries.{Tries}
 use Rattle.rules.specs.declared.Credential.{Credential}
 use Rattle.rules.specs.declared.Card.{Card}
 use Rattle.rules.specs.Sound.{sound}
 use Rattle.texts.specs.Text.{text}
-use Rattle.texts.specs.Calls.{Wrote, toText, Got, fromText}
+use Rattle.texts.specs.Calls.{Wrote, toText, Got, accepted, fromText}
 use Rattle.text_examples.specs.Bytes.{equal}
 
 -- every number of a card
@@ -49,6 +48,14 @@ reads g outcome card area =
 -- a blank state, all zero
 abbrev pub blank : List ℕ
 blank = replicate 255 0
+
+-- a text is accepted, or is not
+abbrev pub agree : Bool → Bool → Bool
+agree true b = b
+agree false b = not b
+
+abbrev pub is : Bool → List ℕ → Bool
+is good s = agree good (accepted s)
 
 pub data Row : Type 0 where
   -- a sound card, the bytes of its files, and its text: written where it just fits and where there is more room, refused by 10 in one byte less,
