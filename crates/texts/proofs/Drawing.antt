@@ -6,7 +6,7 @@ use mathlib.Core.List.{List, [], _∷_, _++_, append-assoc}
 use mathlib.Core.Path.{_≡_, refl, sym, ap, ap₂, _∙_}
 use mathlib.Core.Logic.{by-cases}
 use native.Mathlib.Decide.{decLe}
-use native.Mathlib.Numerals.{add-one, unary-clauses}
+use native.Mathlib.Numerals.{add-one}
 use native.Mathlib.Omega.{arith}
 use lib.ListN.{length, set, getD, take, drop, length-drop, length-set, drop-of-length-le}
 use lib.Seq.{drop-cons, drop-drop, take-all}
@@ -20,6 +20,7 @@ use Rattle.files.specs.Part.{over}
 use Rattle.files.specs.State.{blankFile}
 use Rattle.files.specs.Types.{size}
 use Rattle.files.specs.Directory.{file, used}
+use Rattle.card.proofs.Filling.{take-fewer}
 use Rattle.rules.specs.declared.Card.{Card}
 use Rattle.rules.specs.State.{credential}
 use Rattle.texts.specs.Text.{line, credentialLine, credentialLines, currentFid, sessionLine, fileLine, rows, linesFor, contents, filesText, text}
@@ -98,11 +99,6 @@ five-from n a b c d e m ha hb hc hd he hm =
     take-all (5 - (5 - m)) (drop (5 - m) (a ∷ b ∷ c ∷ d ∷ e ∷ [])) l ∙ rw (ha, hb, hc, hd, he, hm)
 
 -- the first n bytes
-pub take-fewer : (n : ℕ) (s : List ℕ) → take (min n (length s)) s ≡ take n s
-take-fewer zero s = simp unary-clauses
-take-fewer (suc n) [] = simp unary-clauses
-take-fewer (suc n) (x ∷ xs) = simp unary-clauses (ap (λ (l : List ℕ). x ∷ l) (take-fewer n xs))
-
 pub front-as : (v w : List ℕ) (b : ℕ) (p q : Page) → q ≡ draw (ended b (orDash v)) p → v ≡ w → q ≡ draw (ended b (orDash w)) p
 front-as v w b p q e h = e ∙ ap (λ (x : List ℕ). draw (ended b (orDash x)) p) h
 
