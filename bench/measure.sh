@@ -1,17 +1,33 @@
 # What the scripts here share. They source it behind tools/x86/common.sh.
 
-# best COMMAND...: the shortest of three runs on $work/script, in seconds.
+# make_scripts LINES: two scripts from a fixed seed. $work/mode-0 has so many random lines, and all its cards are of mode 0. $work/mode-1
+# is the same on cards of mode 1, with a GET RESPONSE behind each command that has data, as far as a script may go.
+make_scripts() {
+    python3 tests/model/generate.py 1 "$1" | LC_ALL=C sed -E 's/^(ISSUE(\t[^\t]*){6})\t[0-9]+$/\1\t0/' >"$work/mode-0"
+    x86 target/bin/script <"$work/mode-0" >"$work/answers"
+    python3 bench/fetching.py "$work/mode-0" "$work/answers" >"$work/mode-1"
+}
+
+# best SCRIPT COMMAND...: the shortest of three runs on the script, in seconds.
 best() {
+    local script=$1
+    shift
     for _ in 1 2 3; do
-        { TIMEFORMAT=%R; time "$@" <"$work/script" >"$work/out"; } 2>&1
+        { TIMEFORMAT=%R; time "$@" <"$script" >"$work/out"; } 2>&1
     done | sort -n | head -n 1
 }
 
-# row NAME COMMAND...: how many of the script's $lines lines a second the command does.
+# row NAME SCRIPT COMMAND...: how many of the script's lines a second the command does.
 row() {
     local name=$1
     shift
-    awk -v n="$lines" -v t="$(best "$@")" -v name="$name" 'BEGIN { printf "%10d lines a second  %s\n", (t > 0 ? n / t : 0), name }'
+    awk -v n="$(wc -l <"$1")" -v t="$(best "$@")" -v name="$name" \
+        'BEGIN { printf "%10d lines a second  %s\n", (t > 0 ? n / t : 0), name }'
+}
+
+# change NOW BEFORE: in percent.
+change() {
+    awk -v now="$1" -v before="$2" 'BEGIN { printf "%+.1f %%", (before > 0 ? 100 * now / before - 100 : 0) }'
 }
 
 # build_table_version: has `table_version` name libcipher.a as it was with the substitution table. Where it is not there, it is proved

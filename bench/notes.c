@@ -1,10 +1,11 @@
 /*
- * How long one call takes in place, on cards with notes (files of type 2C) and
- * on cards without: one command, again and again on the same card.
+ * How long one call takes in place, on cards with notes (files of type 2C), on
+ * cards of mode 1 and on others: one command, again and again on the same card.
  *
- * It links with the library of the version before too, which has no type 2C:
- * a card is taken to be as large as the library says, no card is reset, and
- * cards that cannot be made are left out.
+ * It links with the library of an earlier version too, which may have no type
+ * 2C and no mode: a card is taken to be as large as the library says, no card
+ * is reset, and cards that cannot be made are left out. An issue without a mode
+ * does not see the last argument.
  */
 #include <stdbool.h>
 #include <stdio.h>
@@ -76,23 +77,29 @@ static unsigned made(const char *digits, size_t more)
     return give(&command);
 }
 
+/* It ends 9000, or 61xx, which counts as 9000. */
 static void make(const char *digits, size_t more)
 {
     unsigned word = made(digits, more);
 
-    if (word != 0x9000)
+    if (word != 0x9000 && word >> 8 != 0x61)
         stop(digits, word, 0x9000);
 }
 
-static void issue(void)
+static void issue_in(uint16_t mode)
 {
     static const uint8_t pin[] = { '1', '2', '3', '4', '5', '6' };
 
     if (limpet_issue((struct limpet_card *)card, area, LIMPET_AREA_SIZE, c1_key, sizeof c1_key, 128,
-                     pin, sizeof pin, 5, pin, sizeof pin, 3) != LIMPET_OK) {
+                     pin, sizeof pin, 5, pin, sizeof pin, 3, mode) != LIMPET_OK) {
         fprintf(stderr, "notes: a good order is refused\n");
         exit(EXIT_FAILURE);
     }
+}
+
+static void issue(void)
+{
+    issue_in(0);
 }
 
 /* With the cryptogram of FIPS 197 C.1. */
@@ -181,6 +188,30 @@ static void with_fixed(int rounds)
     measure(rounds, "a 2A file of 128 records of 32 bytes", "update number 128", "00 DC 800C 20", 32, 0x9000);
 }
 
+/* -------------------------------------------------------- cards of mode 1 */
+
+/* Whether there is a mode 1: then a challenge waits. */
+static bool issue_in_mode_1(void)
+{
+    issue_in(1);
+    return made("00 84 0000 10", 0) == 0x6110;
+}
+
+/* A read in mode 1 is two calls, that of the read and that of GET RESPONSE. */
+static void with_waiting(int rounds)
+{
+    static const char name[] = "mode 1, a 28 file of 4,096 bytes";
+
+    make("00 82 0000 10 69C4E0D86A7B0430D8CDB78070B4C55A", 0);
+    make("80 E0 0101 05 28 1000 00 00", 0);
+    measure(rounds, name, "query", "00 20 0001", 0, 0x63C3);
+    measure(rounds, name, "read 256 bytes, which wait", "00 B0 8100 00", 0, 0x6100);
+    make("00 B0 8100 00", 0);
+    measure(rounds, name, "GET RESPONSE, all of 256 bytes", "00 C0 0000 00", 0, 0x9000);
+    measure(rounds, name, "GET RESPONSE, one of 256 bytes", "00 C0 0000 01", 0, 0x61FF);
+    measure(rounds, name, "query, and 256 bytes are discarded", "00 20 0001", 0, 0x63C3);
+}
+
 /* ------------------------------------------------------- cards with notes */
 
 static void append(unsigned count, unsigned length)
@@ -263,6 +294,8 @@ int main(int count, char **arguments)
     with_sixteen(rounds);
     with_binary(rounds);
     with_fixed(rounds);
+    if (issue_in_mode_1())
+        with_waiting(rounds);
     if (create_notes()) {
         with_long_notes(rounds);
         with_short_notes(rounds);

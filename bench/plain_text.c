@@ -31,9 +31,16 @@ static size_t credential_length(const struct credential *x)
     return 2u * x->length + 1 + decimal_length(x->tries.limit) + 1 + decimal_length(x->tries.left) + 1;
 }
 
-static size_t session_length(const struct session *s)
+/* Hex, or - for none. */
+static size_t optional_length(size_t bytes)
 {
-    return 2 * CREDENTIALS + (s->current != 0 ? 2 * FID_BYTES : 1) + 1 + (s->length != 0 ? 2u * s->length : 1) + 1;
+    return bytes > 0 ? 2 * bytes : 1;
+}
+
+static size_t session_length(const struct session *s, const struct response *r)
+{
+    return 2 * CREDENTIALS + optional_length(s->current != 0 ? FID_BYTES : 0) + 1 + optional_length(s->length) + 1
+        + 2 + optional_length(waiting_count(r)) + 1;
 }
 
 static size_t file_length(const struct file *f)
@@ -47,7 +54,7 @@ static size_t file_length(const struct file *f)
 /* Counted first, since nothing may be written where the text does not fit. */
 static size_t card_length(const struct layout *c)
 {
-    size_t length = session_length(&c->session);
+    size_t length = session_length(&c->session, &c->response);
 
     for (size_t i = 0; i < CREDENTIALS; i++)
         length += credential_length(&c->credentials[i]);
@@ -74,6 +81,11 @@ static uint8_t *put_hex(uint8_t *to, const uint8_t *bytes, size_t count)
     return to;
 }
 
+static uint8_t *put_optional(uint8_t *to, const uint8_t *bytes, size_t count)
+{
+    return count > 0 ? put_hex(to, bytes, count) : put(to, '-');
+}
+
 static uint8_t *put_decimal(uint8_t *to, unsigned number)
 {
     size_t length = decimal_length(number);
@@ -98,6 +110,7 @@ static uint8_t *put_credential(uint8_t *to, const struct credential *x)
 static uint8_t *put_session(uint8_t *to, const struct layout *c)
 {
     const struct session *s = &c->session;
+    const struct response *r = &c->response;
 
     for (size_t i = 0; i < CREDENTIALS; i++) {
         to = put(to, s->rights[i] != 0 ? '1' : '0');
@@ -111,7 +124,11 @@ static uint8_t *put_session(uint8_t *to, const struct layout *c)
         to = put(to, '-');
     }
     to = put(to, '\t');
-    to = s->length != 0 ? put_hex(to, s->challenge, s->length) : put(to, '-');
+    to = put_optional(to, s->challenge, s->length);
+    to = put(to, '\t');
+    to = put(to, r->mode != 0 ? '1' : '0');
+    to = put(to, '\t');
+    to = put_optional(to, r->bytes, waiting_count(r));
     return put(to, '\n');
 }
 
@@ -216,12 +233,19 @@ static bool take_hex(struct input *in, uint8_t *bytes, size_t count)
 }
 
 /* As many bytes as stand there, up to that room. */
-static bool take_value(struct input *in, uint8_t *bytes, size_t room, uint8_t *length)
+static bool take_value(struct input *in, uint8_t *bytes, size_t room, size_t *length)
 {
     for (*length = 0; *length < room && digit_value(next(in)) >= 0; ++*length)
         if (!take_hex(in, &bytes[*length], 1))
             return false;
     return *length > 0;
+}
+
+/* The same, or - for none. */
+static bool take_optional(struct input *in, uint8_t *bytes, size_t room, size_t *length)
+{
+    *length = 0;
+    return take(in, '-') || take_value(in, bytes, room, length);
 }
 
 /* 0 to that number, without leading zeros. */
@@ -249,8 +273,12 @@ static bool take_small(struct input *in, uint8_t *number)
 
 static bool take_credential(struct input *in, struct credential *x)
 {
-    return take_value(in, x->value, VALUE_ROOM, &x->length) && take(in, '\t')
-        && take_small(in, &x->tries.limit) && take(in, '\t')
+    size_t length;
+
+    if (!take_value(in, x->value, VALUE_ROOM, &length))
+        return false;
+    x->length = (uint8_t)length;
+    return take(in, '\t') && take_small(in, &x->tries.limit) && take(in, '\t')
         && take_small(in, &x->tries.left) && take(in, '\n');
 }
 
@@ -260,20 +288,36 @@ struct current {
     uint8_t fid[FID_BYTES];
 };
 
-static bool take_right(struct input *in, uint8_t *right)
+/* A right or the mode, with the tab behind it. */
+static bool take_bit(struct input *in, uint8_t *bit)
 {
-    *right = next(in) == '1';
+    *bit = next(in) == '1';
     return (take(in, '0') || take(in, '1')) && take(in, '\t');
 }
 
-static bool take_session(struct input *in, struct session *s, struct current *current)
+static bool take_response(struct input *in, struct response *r)
 {
+    size_t count;
+
+    if (!take_bit(in, &r->mode) || !take_optional(in, r->bytes, WAITING_ROOM, &count))
+        return false;
+    set_waiting_count(r, (unsigned)count);
+    return true;
+}
+
+static bool take_session(struct input *in, struct session *s, struct response *r, struct current *current)
+{
+    size_t length;
+
     for (size_t i = 0; i < CREDENTIALS; i++)
-        if (!take_right(in, &s->rights[i]))
+        if (!take_bit(in, &s->rights[i]))
             return false;
     current->is_any = !take(in, '-');
-    return (!current->is_any || take_hex(in, current->fid, sizeof current->fid)) && take(in, '\t')
-        && (take(in, '-') || take_value(in, s->challenge, CHALLENGE_ROOM, &s->length)) && take(in, '\n');
+    if ((current->is_any && !take_hex(in, current->fid, sizeof current->fid)) || !take(in, '\t')
+        || !take_optional(in, s->challenge, CHALLENGE_ROOM, &length) || !take(in, '\t'))
+        return false;
+    s->length = (uint8_t)length;
+    return take_response(in, r) && take(in, '\n');
 }
 
 static bool take_counted(struct input *in, struct file *f)
@@ -348,7 +392,7 @@ static bool take_card(struct input *in, struct layout *c, uint8_t *area)
     for (size_t i = 0; i < CREDENTIALS; i++)
         if (!take_credential(in, &c->credentials[i]))
             return false;
-    return take_session(in, &c->session, &current) && take_files(in, &c->directory, area) && find_current(c, &current)
+    return take_session(in, &c->session, &c->response, &current) && take_files(in, &c->directory, area) && find_current(c, &current)
         && is_sound((const uint8_t *)c, area);
 }
 

@@ -1,5 +1,5 @@
 /*
- * A card written as lines and read again (request R-4), in plain C: for
+ * A card written as lines and read again (requests R-4 and R-6), in plain C: for
  * bench/texts and tests/fuzz-texts to hold the library's two calls against.
  * The parameters and the outcomes are those of limpet_to_text and limpet_from_text.
  */

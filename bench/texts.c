@@ -118,14 +118,15 @@ static void make_with_files(struct held *h, unsigned files)
     send(h, &state, "00 84 0000 10", 0);
 }
 
-/* The last has the most records that any card has. */
-enum { FULL_CARD = 3, CARDS = 5 };
+/* Behind the full card one with the most records that any card has, and one with the most bytes that can wait. */
+enum { FULL_CARD = 3, MOST_RECORDS, MOST_WAITING, CARDS };
 static const char *const names[CARDS] = {
     "no files",
     "4 files of 256 bytes",
     "8 files of 256 bytes",
     "16 files of 256 bytes, the whole area",
     "one file of type 2C with 2,048 records, the whole area",
+    "one file of 320 bytes, and 256 bytes waiting",
 };
 
 static void keep(struct kept *k, size_t which)
@@ -136,7 +137,7 @@ static void keep(struct kept *k, size_t which)
     if (which <= FULL_CARD)
         make_with_files(&h, files[which]);
     else
-        sorts[FULL_OF_NOTES].make(&h);
+        sorts[which == MOST_RECORDS ? FULL_OF_NOTES : ALL_WAITING].make(&h);
     k->name = names[which];
     if (wrongs > 0)
         stop(k->name, "the card cannot be made");

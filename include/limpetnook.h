@@ -17,7 +17,7 @@
  * What is taken at most, measured and not proved (tests/footprint):
  *
  *                     code    constants   stack of a call      C functions needed
- *   liblimpetnook.a   64000   1500        LIMPET_TEXT_STACK    memcpy, memset
+ *   liblimpetnook.a   71000   1500        LIMPET_TEXT_STACK    memcpy, memset
  *   limpet_aes128     1335    0           LIMPET_AES128_STACK  none
  *
  * The second row is for a program that calls limpet_aes128 alone and is linked
@@ -42,7 +42,7 @@ extern "C" {
  *
  *   if (limpet_version() != LIMPET_VERSION) ... header and library do not match
  */
-#define LIMPET_VERSION 7
+#define LIMPET_VERSION 8
 
 uint32_t limpet_version(void);
 
@@ -50,7 +50,7 @@ uint32_t limpet_version(void);
  * The bytes of stack that are enough for a call: on a card, of its two calls
  * for a text, and of limpet_aes128.
  */
-#define LIMPET_CARD_STACK 4096
+#define LIMPET_CARD_STACK 5120
 #define LIMPET_TEXT_STACK 16384
 #define LIMPET_AES128_STACK 512
 
@@ -60,7 +60,7 @@ uint32_t limpet_version(void);
 #define LIMPET_BAD_AREA 2    /* the data area is not 4,096 bytes long */
 #define LIMPET_BAD_RANDOM 3  /* the random input is not 16 bytes long */
 #define LIMPET_UNSOUND 4     /* card and area are together no state of a card */
-#define LIMPET_BAD_ISSUE 5   /* issue: a key, a PIN or a limit is not good */
+#define LIMPET_BAD_ISSUE 5   /* issue: a key, a PIN, a limit or the mode is not good */
 #define LIMPET_BAD_LENGTH 6  /* key, block or output is not 16 bytes long */
 #define LIMPET_SHORT_TEXT 10 /* the buffer is shorter than the card's text */
 #define LIMPET_BAD_TEXT 11   /* the text is not the lines of a card */
@@ -73,7 +73,7 @@ uint32_t limpet_version(void);
 #define LIMPET_RANDOM_SIZE 16  /* fresh random bytes: exactly */
 #define LIMPET_KEY_SIZE 16     /* the device key: exactly */
 #define LIMPET_REPLY_SIZE 258  /* the reply: at least */
-#define LIMPET_TEXT_SIZE 8886  /* the text of a card: no card has a longer one */
+#define LIMPET_TEXT_SIZE 9401  /* the text of a card: no card has a longer one */
 
 /*
  * AES-128 of one block under a key (FIPS 197, encryption).
@@ -131,20 +131,22 @@ struct limpet_card;
  *
  * once limpet_version() was seen to be LIMPET_VERSION.
  */
-#define LIMPET_CARD_SIZE 255
+#define LIMPET_CARD_SIZE 514
 
 size_t limpet_card_size(void);
 
 /*
- * Issues a card: full tries, no files, no right held, no challenge, and an
- * area of 00. What the card's bytes were before does not matter.
+ * Issues a card: full tries, no files, no right held, no challenge, nothing
+ * waiting, and an area of 00. What the card's bytes were before does not matter.
  *
  * The device key is LIMPET_KEY_SIZE bytes. A PIN is 6 to 16 bytes, each an
- * ASCII digit. A limit, of wrong presentations in a row, is 1 to 128.
+ * ASCII digit. A limit, of wrong presentations in a row, is 1 to 128. The mode
+ * is 0 or 1, for good: in mode 0 a command's data come with its answer, in
+ * mode 1 they wait to be fetched, as readers that speak T=0 need it.
  *
  *   LIMPET_OK         the card is issued.
  *   LIMPET_BAD_AREA   area_len is not LIMPET_AREA_SIZE.
- *   LIMPET_BAD_ISSUE  the key, a PIN or a limit is not as said above.
+ *   LIMPET_BAD_ISSUE  the key, a PIN, a limit or the mode is not as said above.
  *
  * There is no other outcome, and the first that applies is returned. On a
  * refusal the area is as it was and the card is blank, each byte of it 00: a
@@ -155,7 +157,8 @@ uint8_t limpet_issue(struct limpet_card *card,
                      uint8_t *area, size_t area_len,
                      const uint8_t *key, size_t key_len, uint16_t device_limit,
                      const uint8_t *admin_pin, size_t admin_pin_len, uint16_t admin_limit,
-                     const uint8_t *user_pin, size_t user_pin_len, uint16_t user_limit);
+                     const uint8_t *user_pin, size_t user_pin_len, uint16_t user_limit,
+                     uint16_t mode);
 
 /*
  * Gives the card one command, of any bytes and any length, also none, and has
@@ -177,6 +180,14 @@ uint8_t limpet_issue(struct limpet_card *card,
  *
  * There is no other outcome, and the first that applies is returned. On a
  * refusal card, area and reply are as they were, and *reply_count is 0.
+ *
+ * On a card of mode 1 the answer to a command that has data is the status word
+ * 61xx alone: xx bytes wait in the card, 00 for 256. It counts as 9000. The
+ * command 00 C0 00 00 Le, GET RESPONSE, has the next Le of them as its data, and
+ * with Le 00 all; its status word is 61 and the number of those that still wait,
+ * or 9000 after the last. A refused GET RESPONSE loses none, and none drops the
+ * challenge. Any other command that is processed discards what waits, and so does
+ * a reset. In mode 0 there is no GET RESPONSE, and nothing waits.
  */
 uint8_t limpet_command(struct limpet_card *card,
                        uint8_t *area, size_t area_len,
@@ -187,8 +198,8 @@ uint8_t limpet_command(struct limpet_card *card,
 
 /*
  * Resets the card, as taking it out of the reader does: no right is held, no
- * file is current, there is no challenge. Tries, PINs and files stay. The area
- * is only read.
+ * file is current, there is no challenge, nothing waits. Tries, PINs, files and
+ * the mode stay. The area is only read.
  *
  *   LIMPET_OK        the card is reset.
  *   LIMPET_BAD_AREA  area_len is not LIMPET_AREA_SIZE.
@@ -201,8 +212,8 @@ uint8_t limpet_reset(struct limpet_card *card, const uint8_t *area, size_t area_
 
 /*
  * Writes a card and its files as lines of text. docs/CARD-FILE.md says what
- * stands in them: all that the card holds, the key and the PINs too. Card and
- * area are only read.
+ * stands in them: all that the card holds, the key, the PINs and the bytes that
+ * wait too. Card and area are only read.
  *
  *   LIMPET_OK          the first *text_count bytes of the buffer are the text.
  *                      The rest of the buffer is as it was. There is no byte 0

@@ -8,6 +8,7 @@
 /* The card's struct is not for C to know, so its room is bytes. */
 static uint8_t kept[LIMPET_CARD_SIZE];
 static uint8_t area[LIMPET_AREA_SIZE];
+static uint8_t mode; /* seen where the card is issued or read, and never changed by a call */
 
 static struct limpet_card *card(void)
 {
@@ -24,15 +25,24 @@ bool card_fits(void)
 
 uint8_t card_issue(const struct line *l)
 {
-    return limpet_issue(card(), area, sizeof area,
-                        l->key.at, l->key.len, l->device_limit,
-                        l->admin_pin.at, l->admin_pin.len, l->admin_limit,
-                        l->user_pin.at, l->user_pin.len, l->user_limit);
+    uint8_t outcome = limpet_issue(card(), area, sizeof area,
+                                   l->key.at, l->key.len, l->device_limit,
+                                   l->admin_pin.at, l->admin_pin.len, l->admin_limit,
+                                   l->user_pin.at, l->user_pin.len, l->user_limit, l->mode);
+
+    if (outcome == LIMPET_OK)
+        mode = (uint8_t)l->mode;
+    return outcome;
 }
 
 uint8_t card_reset(void)
 {
     return limpet_reset(card(), area, sizeof area);
+}
+
+uint8_t card_mode(void)
+{
+    return mode;
 }
 
 uint8_t card_command(struct bytes command, struct bytes random, uint8_t *reply, size_t *count)
@@ -60,9 +70,25 @@ uint8_t card_to_lasting_text(struct card_text *t)
     return outcome;
 }
 
+/* The session is the fourth line, and the mode its sixth field. */
+static uint8_t mode_of(const struct card_text *t)
+{
+    size_t at = 0;
+
+    for (int newlines = 0; at < t->len && newlines < 3; at++)
+        newlines += t->at[at] == '\n';
+    for (int tabs = 0; at < t->len && tabs < 5; at++)
+        tabs += t->at[at] == '\t';
+    return at < t->len && t->at[at] == '1';
+}
+
 uint8_t card_from_text(const struct card_text *t)
 {
-    return limpet_from_text(card(), area, sizeof area, t->at, t->len);
+    uint8_t outcome = limpet_from_text(card(), area, sizeof area, t->at, t->len);
+
+    if (outcome == LIMPET_OK)
+        mode = mode_of(t);
+    return outcome;
 }
 
 void card_save(struct card_copy *c)
@@ -97,7 +123,7 @@ const char *outcome_says(uint8_t outcome)
         [LIMPET_BAD_AREA] = "the data area has the wrong length",
         [LIMPET_BAD_RANDOM] = "the random input is not 16 bytes",
         [LIMPET_UNSOUND] = "the card's state is not sound",
-        [LIMPET_BAD_ISSUE] = "the key is not 16 bytes, a PIN not 6 to 16 digits, or a limit not 1 to 128",
+        [LIMPET_BAD_ISSUE] = "the key is not 16 bytes, a PIN not 6 to 16 digits, a limit not 1 to 128, or the mode not 0 or 1",
         [LIMPET_SHORT_TEXT] = "the room for the card's lines is too short",
         [LIMPET_BAD_TEXT] = "these are not the lines of a sound card",
     };

@@ -13,6 +13,9 @@
 uint8_t card_issue(const struct line *l);
 uint8_t card_reset(void);
 
+/* 0 or 1, as the card was issued. In mode 1 data wait until they are fetched by GET RESPONSE. */
+uint8_t card_mode(void);
+
 /* random: 16 bytes. reply has room for LIMPET_REPLY_SIZE bytes; *count is how many of them are the answer. */
 uint8_t card_command(struct bytes command, struct bytes random, uint8_t *reply, size_t *count);
 

@@ -92,6 +92,8 @@ void read_issue(const struct bytes fields[ISSUE_FIELDS], struct line *l)
     else if (!read_number(fields[1], &l->device_limit) || !read_number(fields[3], &l->admin_limit)
              || !read_number(fields[5], &l->user_limit))
         l->wrong = "a limit is not a number";
+    else if (!read_number(fields[6], &l->mode))
+        l->wrong = "the mode is not a number";
 }
 
 static void read_command(const struct bytes fields[2], struct line *l)

@@ -2,6 +2,7 @@
 #include <getopt.h>
 #include <stdio.h>
 #include <stdlib.h>
+#include <string.h>
 #include <unistd.h>
 
 #include "card.h"
@@ -16,7 +17,7 @@ const char said_by[] = "limpet-reader";
 
 static const char usage[] =
     "usage: reader/run [OPTION]... FILE\n"
-    "       reader/run [OPTION]... KEY LIMIT ADMIN-PIN LIMIT USER-PIN LIMIT\n"
+    "       reader/run [OPTION]... KEY LIMIT ADMIN-PIN LIMIT USER-PIN LIMIT [MODE]\n"
     "       reader/run [OPTION]... --card CARD\n"
     "\n"
     "Puts a card into vpcd, the virtual reader of Debian's package vsmartcard-vpcd.\n"
@@ -24,27 +25,34 @@ static const char usage[] =
     "program ends. Without --card it lives in memory alone and is gone then.\n"
     "\n"
     "FILE is a script: an ISSUE line and, where wanted, CMD and RESET lines that\n"
-    "prepare the card (./limpet --help has their form). Or the six values of an\n"
-    "ISSUE line are given as words: the key as upper-case hex, each limit 1 to 128.\n"
-    "Others on the same machine can see words, and not what is in a file.\n"
+    "prepare the card (./limpet --help has their form). Or the values of an ISSUE\n"
+    "line are given as words: the key as upper-case hex, each limit 1 to 128, the mode\n"
+    "0 or 1; without one it is that of --mode, or 0. Others on the same machine can see\n"
+    "words, and not what is in a file.\n"
+    "\n"
+    "A card of mode 0 speaks T=1, and its data come with its answer. A card of mode 1\n"
+    "speaks T=0: it answers 61 and how many bytes wait, which GET RESPONSE, 00C00000\n"
+    "and that number, fetches.\n"
     "\n"
     "  --card CARD       the card is kept in the file CARD, as described below\n"
     "  --prepare SCRIPT  run the CMD and RESET lines of SCRIPT on the issued card\n"
+    "  --mode MODE       the card is to be of that mode, 0 or 1; an error where FILE,\n"
+    "                    CARD or the words have another\n"
     "  --port PORT       where vpcd waits for a card (35963)\n"
     "  --verbose         print what the card is told and what it answers, PINs too\n"
     "  --help            print this\n"
     "\n"
-    "With --card the card that is in CARD is put into the reader, and FILE, the six\n"
-    "values and --prepare are not looked at. They are for the first time: where there\n"
-    "is no file CARD yet, they make the card, and CARD is made with it. tools/card\n"
-    "makes and shows such files too; docs/CARD-FILE.md says what is in them.\n"
+    "With --card the card that is in CARD is put into the reader, and FILE, the words\n"
+    "and --prepare are not looked at. They are for the first time: where there is no\n"
+    "file CARD yet, they make the card, and CARD is made with it. tools/card makes and\n"
+    "shows such files too; docs/CARD-FILE.md says what is in them.\n"
     "\n"
     "What a command changes for good, such as tries, PINs and files, is in CARD before\n"
     "its answer goes out, so nothing that was answered is lost, however this program\n"
     "ends. Where it cannot be stored the command is answered 6F00 and the card stays\n"
     "as it was; this terminal says why. The session is not stored: putting a card in is\n"
-    "a reset, so rights held, current file and challenge are gone at the start. While\n"
-    "the card is in the reader no other program can change CARD.\n"
+    "a reset, so rights held, current file, challenge and waiting bytes are gone at the\n"
+    "start. While the card is in the reader no other program can change CARD.\n"
     "\n"
     "Status: 0 when the reader was closed, 1 for an error, 2 for bad usage.\n"
     "\n"
@@ -54,8 +62,9 @@ static const char usage[] =
 
 struct arguments {
     const char *prepare, *card;
+    char *mode; /* "0" or "1"; NULL where any will do */
     uint16_t port;
-    int words; /* a script's name, the six values, or none */
+    int words; /* a script's name, the values of an ISSUE line with or without the mode, or none */
     char **word;
 };
 
@@ -75,13 +84,25 @@ static bool read_port(const char *text, uint16_t *port)
     return true;
 }
 
+static bool read_mode(char *text, char **mode)
+{
+    *mode = text;
+    return strcmp(text, "0") == 0 || strcmp(text, "1") == 0;
+}
+
+static bool good_count(const struct arguments *a)
+{
+    return a->words == 1 || a->words == ISSUE_FIELDS - 1 || a->words == ISSUE_FIELDS || (a->words == 0 && a->card != NULL);
+}
+
 /* -1 to go on, else the status to end with. */
 static int read_options(int argc, char **argv, struct arguments *a)
 {
     static const struct option options[] = {
         { "prepare", required_argument, NULL, 's' }, { "port", required_argument, NULL, 'p' },
         { "card", required_argument, NULL, 'c' },    { "verbose", no_argument, NULL, 'v' },
-        { "help", no_argument, NULL, 'h' },          { NULL, 0, NULL, 0 },
+        { "mode", required_argument, NULL, 'm' },    { "help", no_argument, NULL, 'h' },
+        { NULL, 0, NULL, 0 },
     };
     int option;
     while ((option = getopt_long(argc, argv, "h", options, NULL)) >= 0) {
@@ -94,16 +115,16 @@ static int read_options(int argc, char **argv, struct arguments *a)
         } else if (option == 'h') {
             fputs(usage, stdout);
             return EXIT_SUCCESS;
-        } else if (option != 'p') {
+        } else if (option != 'm' && option != 'p') {
             return bad_usage();
-        } else if (!read_port(optarg, &a->port)) {
-            say("%s is no port", optarg);
+        } else if (!(option == 'm' ? read_mode(optarg, &a->mode) : read_port(optarg, &a->port))) {
+            say("%s is no %s", optarg, option == 'm' ? "mode" : "port");
             return bad_usage();
         }
     }
     a->words = argc - optind;
     a->word = argv + optind;
-    return a->words == 1 || a->words == ISSUE_FIELDS || (a->words == 0 && a->card != NULL) ? -1 : bad_usage();
+    return good_count(a) ? -1 : bad_usage();
 }
 
 /* Putting a card in is a reset: what the preparation showed it, and a session that its file has, is forgotten. */
@@ -115,9 +136,19 @@ static bool put_in(void)
     return outcome == LIMPET_OK;
 }
 
+static bool issue_values(const struct arguments *a)
+{
+    static char mode_0[] = "0";
+    char *value[ISSUE_FIELDS];
+
+    value[ISSUE_FIELDS - 1] = a->mode != NULL ? a->mode : mode_0;
+    memcpy(value, a->word, (size_t)a->words * sizeof value[0]);
+    return issue_words(value);
+}
+
 static bool make_card(const struct arguments *a)
 {
-    return (a->words == 1 ? run_script(a->word[0], true) : issue_words(a->word))
+    return (a->words == 1 ? run_script(a->word[0], true) : issue_values(a))
         && (a->prepare == NULL || run_script(a->prepare, false))
         && put_in();
 }
@@ -133,6 +164,16 @@ static bool take_card(const struct arguments *a, enum found found, const struct 
     if (a->words > 0 || a->prepare != NULL)
         say("%s is there, so its card is put in and no other is made", a->card);
     return store_load(kept) && put_in();
+}
+
+/* A card keeps the mode of its issue, so --mode cannot give it another. */
+static bool has_mode(const char *asked)
+{
+    bool good = asked == NULL || card_mode() == (asked[0] == '1');
+
+    if (!good)
+        say("the card was issued with mode %u, and --mode asks for %s", (unsigned)card_mode(), asked);
+    return good;
 }
 
 /* kept: NULL where the card is not kept in a file. */
@@ -160,7 +201,7 @@ static int serve_kept(const struct arguments *a)
 
     if (found == CANNOT_OPEN)
         return EXIT_FAILURE;
-    if (take_card(a, found, &kept) && store_card(&kept, WHOLE_CARD) != NOT_STORED)
+    if (take_card(a, found, &kept) && has_mode(a->mode) && store_card(&kept, WHOLE_CARD) != NOT_STORED)
         status = serve(a->port, &kept);
     store_close(&kept);
     return status;
@@ -178,7 +219,7 @@ int main(int argc, char **argv)
     else if (a.card != NULL)
         status = serve_kept(&a);
     else
-        status = make_card(&a) ? serve(a.port, NULL) : EXIT_FAILURE;
+        status = make_card(&a) && has_mode(a.mode) ? serve(a.port, NULL) : EXIT_FAILURE;
     card_wipe();
     return status;
 }

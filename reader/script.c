@@ -53,7 +53,7 @@ static const char *run_line(const struct text *t, struct line *l, bool issue_due
     if (l->kind == ISSUE_LINE)
         return issue_due ? run_issue(l) : "a card has been issued already";
     if (issue_due && t->len <= LONGEST_LINE)
-        return "the first line is to be an ISSUE: key, limit, admin PIN, limit, user PIN, limit, parted by tabs";
+        return "the first line is to be an ISSUE: key, limit, admin PIN, limit, user PIN, limit, mode, parted by tabs";
     if (l->wrong != NULL)
         return l->wrong;
     return l->kind == CMD_LINE ? run_command(l) : why_not(card_reset());

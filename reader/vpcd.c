@@ -19,21 +19,32 @@ enum { POWER_OFF = 0, POWER_ON = 1, RESET = 2, GET_ATR = 4 };
 /* A message is two length bytes, high byte first, and a body. */
 enum { HEAD_SIZE = 2, BODY_MAX = 0xFFFF };
 
+/* The end of both answers to reset. */
+#define HISTORY \
+    0x80, /* historical bytes follow as compact TLV (ISO/IEC 7816-4) */ \
+    0x71, 0x16, /* capabilities: selection by FID, short file numbers, record numbers */ \
+    0x56, 'L', 'I', 'M', 'P', 'E', 'T' /* the issuer's own data, 6 bytes: a name that a person can recognise */
+
 /*
- * The answer to reset (ISO/IEC 7816-3). The card speaks T=1 alone, which hands a command over whole and its data back with the
- * status word; T=0 would have the reader ask for them by a command that the card does not have.
+ * The answer to reset (ISO/IEC 7816-3) of a card of mode 0. It speaks T=1 alone, which hands a command over whole and its data back
+ * with the status word.
  */
-static const uint8_t atr[] = {
+static const uint8_t atr_t1[] = {
     0x3B, /* TS: direct convention */
     0x8A, /* T0: TD1 follows; 10 historical bytes */
     0x81, /* TD1: TD2 follows; the first protocol is T=1 */
     0x31, /* TD2: TA3 and TB3 follow, and are T=1's */
     0xFE, /* TA3: the card takes blocks of up to 254 bytes, the most there are */
     0x45, /* TB3: block waiting time 1.6 s (BWI 4), character waiting time 43 etu (CWI 5), the usual ones */
-    0x80, /* historical bytes follow as compact TLV (ISO/IEC 7816-4) */
-    0x71, 0x16, /* capabilities: selection by FID, short file numbers, record numbers */
-    0x56, 'L', 'I', 'M', 'P', 'E', 'T', /* the issuer's own data, 6 bytes: a name that a person can recognise */
+    HISTORY,
     0x39, /* TCK: makes the exclusive or of all bytes from T0 on 0 */
+};
+
+/* That of a card of mode 1. It speaks T=0 alone, in which data are fetched by a command of their own. T=0 alone has no TCK. */
+static const uint8_t atr_t0[] = {
+    0x3B, /* TS: direct convention */
+    0x0A, /* T0: no TD1, which is T=0; 10 historical bytes */
+    HISTORY,
 };
 
 int vpcd_connect(uint16_t port)
@@ -190,7 +201,7 @@ static bool serve(int s, struct bytes message, struct store *kept)
         reset("reset");
         return true;
     case GET_ATR:
-        return answer(s, atr, sizeof atr);
+        return card_mode() == 1 ? answer(s, atr_t0, sizeof atr_t0) : answer(s, atr_t1, sizeof atr_t1);
     default:
         count = ask(message, reply, kept);
         say_exchange(message, (struct bytes){ reply, count });

@@ -24,7 +24,8 @@ struct order good_order(void)
     return (struct order){
         .key = given_bytes(c1_key, sizeof c1_key), .device_limit = 128,
         .admin_pin = given_text(ADMIN_PIN), .admin_limit = 5,
-        .user_pin = given_text(USER_PIN), .user_limit = 3
+        .user_pin = given_text(USER_PIN), .user_limit = 3,
+        .mode = 0
     };
 }
 
@@ -46,12 +47,12 @@ unsigned tell(struct held *h, const char *command)
     return 256u * a.reply[a.count - 2] + a.reply[a.count - 1];
 }
 
-/* A step in the making of a card: it has to end 9000. */
+/* A step in the making of a card: it has to end 9000, or 61xx, "which counts as 9000". */
 static void told(struct held *h, const char *command)
 {
     unsigned sw = tell(h, command);
 
-    if (sw != 0x9000)
+    if (sw != 0x9000 && sw >> 8 != 0x61)
         wrong("the command %s of a card in the making ends %04X", command, sw);
 }
 
@@ -67,18 +68,24 @@ static void log_in_pins(struct held *h)
     told(h, "00 20 0001 10 31323334353637383930313233343536");
 }
 
-static void issue(struct held *h)
+static void issue_in(struct held *h, uint16_t mode)
 {
     struct order o = good_order();
 
+    o.mode = mode;
     if (watched_issue(h, &o) != LIMPET_OK)
         wrong("a good order is refused");
 }
 
-/* A file of each type but 2C; four records appended to three places; the cyclic file is current. */
-static void with_files(struct held *h)
+static void issue(struct held *h)
 {
-    issue(h);
+    issue_in(h, 0);
+}
+
+/* A file of each type but 2C; four records appended to three places; the cyclic file is current. */
+static void with_files_in(struct held *h, uint16_t mode)
+{
+    issue_in(h, mode);
     log_in_device(h);
     told(h, "80 E0 0101 05 28 0040 00 01");
     told(h, "80 E0 0102 05 2A 0405 80 01");
@@ -92,6 +99,11 @@ static void with_files(struct held *h)
     if (watched_reset(h) != LIMPET_OK)
         wrong("a reset of a card in the making is refused");
     told(h, "00 A4 0000 02 0103");
+}
+
+static void with_files(struct held *h)
+{
+    with_files_in(h, 0);
 }
 
 static void with_rights(struct held *h)
@@ -128,6 +140,27 @@ static void full(struct held *h)
     }
 }
 
+/* A read made another file current; the challenge after it was fetched in two parts, and stays. */
+static void none_waiting(struct held *h)
+{
+    with_files_in(h, 1);
+    told(h, "00 B0 8104 03");
+    told(h, "00 84 0000 08");
+    told(h, "00 C0 0000 03");
+    told(h, "00 C0 0000 05");
+}
+
+/* As many bytes wait as can, the first and the last of them not 00. */
+static void all_waiting(struct held *h)
+{
+    issue_in(h, 1);
+    log_in_device(h);
+    told(h, "80 E0 0101 05 28 0140 00 01");
+    told(h, "00 D6 0020 04 A1A2A3A4");
+    told(h, "00 D6 011E 02 B1B2");
+    told(h, "00 B0 0020 00");
+}
+
 /* Appends one record of so many bytes, all of that value. */
 static void append_run(struct held *h, unsigned sfi, unsigned length, unsigned value)
 {
@@ -141,11 +174,12 @@ static void append_run(struct held *h, unsigned sfi, unsigned length, unsigned v
 
 /*
  * Files of type 2C: all but full, with room, full, the smallest, with the longest record, empty, and full at the area's end; files of
- * other types between. Records hold small numbers, so that other lengths than their own may part the used bytes too.
+ * other types between. Records hold small numbers, so that other lengths than their own may part the used bytes too. Five bytes of
+ * a challenge wait, three were fetched.
  */
 static void with_notes(struct held *h)
 {
-    issue(h);
+    issue_in(h, 1);
     log_in_device(h);
     told(h, "80 E0 0101 05 28 0010 00 01");
     told(h, "80 E0 0102 05 2C 0010 80 01");
@@ -175,6 +209,7 @@ static void with_notes(struct held *h)
     log_in_pins(h);
     told(h, "00 A4 0000 02 0103");
     told(h, "00 84 0000 08");
+    told(h, "00 C0 0000 03");
 }
 
 /* The whole area is one file of type 2C, with as many records as fit. */
@@ -193,6 +228,8 @@ const struct sort sorts[SORTS] = {
     [WITH_RIGHTS] = { "with all rights and a challenge", with_rights },
     [LOCKED] = { "with a locked PIN", locked },
     [SIXTEEN] = { "with sixteen files", full },
-    [WITH_NOTES] = { "with notes of different lengths", with_notes },
+    [NONE_WAITING] = { "in mode 1 with nothing waiting", none_waiting },
+    [ALL_WAITING] = { "in mode 1 with 256 bytes waiting", all_waiting },
+    [WITH_NOTES] = { "in mode 1 with notes of different lengths and five bytes waiting", with_notes },
     [FULL_OF_NOTES] = { "full of notes of one byte", full_of_notes },
 };

@@ -9,7 +9,7 @@
 
 #include "watched.h"
 
-/* A good order: the key of FIPS 197 C.1, PINs of 8 and of 16 digits. */
+/* A good order: the key of FIPS 197 C.1, PINs of 8 and of 16 digits, mode 0. */
 struct order good_order(void);
 
 struct given given_bytes(const uint8_t *bytes, size_t length);
@@ -24,7 +24,7 @@ struct sort {
     void (*make)(struct held *h);
 };
 
-enum { FRESH, WITH_FILES, WITH_RIGHTS, LOCKED, SIXTEEN, WITH_NOTES, FULL_OF_NOTES, SORTS };
+enum { FRESH, WITH_FILES, WITH_RIGHTS, LOCKED, SIXTEEN, NONE_WAITING, ALL_WAITING, WITH_NOTES, FULL_OF_NOTES, SORTS };
 extern const struct sort sorts[SORTS];
 
 #endif

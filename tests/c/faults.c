@@ -13,11 +13,11 @@
 uint8_t __real_limpet_issue(struct limpet_card *card, uint8_t *area, size_t area_len,
                             const uint8_t *key, size_t key_len, uint16_t device_limit,
                             const uint8_t *admin_pin, size_t admin_pin_len, uint16_t admin_limit,
-                            const uint8_t *user_pin, size_t user_pin_len, uint16_t user_limit);
+                            const uint8_t *user_pin, size_t user_pin_len, uint16_t user_limit, uint16_t mode);
 uint8_t __wrap_limpet_issue(struct limpet_card *card, uint8_t *area, size_t area_len,
                             const uint8_t *key, size_t key_len, uint16_t device_limit,
                             const uint8_t *admin_pin, size_t admin_pin_len, uint16_t admin_limit,
-                            const uint8_t *user_pin, size_t user_pin_len, uint16_t user_limit);
+                            const uint8_t *user_pin, size_t user_pin_len, uint16_t user_limit, uint16_t mode);
 uint8_t __real_limpet_command(struct limpet_card *card, uint8_t *area, size_t area_len,
                               const uint8_t *command, size_t command_len,
                               const uint8_t *random, size_t random_len,
@@ -132,10 +132,10 @@ static void flip(const void *bytes, ptrdiff_t place)
 uint8_t __wrap_limpet_issue(struct limpet_card *card, uint8_t *area, size_t area_len,
                             const uint8_t *key, size_t key_len, uint16_t device_limit,
                             const uint8_t *admin_pin, size_t admin_pin_len, uint16_t admin_limit,
-                            const uint8_t *user_pin, size_t user_pin_len, uint16_t user_limit)
+                            const uint8_t *user_pin, size_t user_pin_len, uint16_t user_limit, uint16_t mode)
 {
     uint8_t outcome = __real_limpet_issue(card, area, area_len, key, key_len, device_limit,
-                                          admin_pin, admin_pin_len, admin_limit, user_pin, user_pin_len, user_limit);
+                                          admin_pin, admin_pin_len, admin_limit, user_pin, user_pin_len, user_limit, mode);
     bool served = outcome == LIMPET_OK;
 
     if (has_fault("issue-leaves-a-card") && !served)
@@ -156,7 +156,120 @@ uint8_t __wrap_limpet_issue(struct limpet_card *card, uint8_t *area, size_t area
         return LIMPET_BAD_ISSUE;
     if (has_fault("issue-limit-129") && user_limit == 129 && !served)
         return LIMPET_OK;
+    if (has_fault("issue-mode-2") && mode == 2 && !served)
+        return LIMPET_OK;
+    if (has_fault("issue-mode-by-its-low-byte") && mode == 256 && !served)
+        return LIMPET_OK;
+    if (has_fault("issue-forgets-the-mode") && served)
+        ((struct layout *)card)->response.mode = 0;
     return outcome;
+}
+
+/* ---- what waits (R-6) ---- */
+
+/* As where a library looks at some part of the response no more: whether nothing else is unsound. */
+static bool waiting_alone_is_bad(const struct limpet_card *card, const uint8_t *area)
+{
+    struct layout c;
+
+    memcpy(&c, card, sizeof c);
+    if (is_sound((const uint8_t *)&c, area))
+        return false;
+    if (has_fault("mode-not-looked-at"))
+        c.response.mode &= 1;
+    if (has_fault("waiting-in-mode-0"))
+        c.response.mode |= 1;
+    if (has_fault("count-257") && waiting_count(&c.response) == WAITING_ROOM + 1)
+        set_waiting_count(&c.response, WAITING_ROOM);
+    if (has_fault("count-by-its-low-byte"))
+        c.response.count1 = 0;
+    if (has_fault("bytes-past-the-waiting-not-looked-at") && waiting_count(&c.response) < WAITING_ROOM)
+        memset(c.response.bytes + waiting_count(&c.response), 0, WAITING_ROOM - waiting_count(&c.response));
+    if (has_fault("last-waiting-byte-not-looked-at") && waiting_count(&c.response) < WAITING_ROOM)
+        c.response.bytes[WAITING_ROOM - 1] = 0;
+    return is_sound((const uint8_t *)&c, area);
+}
+
+static bool is_get_response(const uint8_t *command, size_t length)
+{
+    return length == 5 && command[0] == 0x00 && command[1] == 0xC0;
+}
+
+static void put_word(uint8_t *reply, size_t *count, unsigned word)
+{
+    reply[*count - 2] = (uint8_t)(word >> 8);
+    reply[*count - 1] = (uint8_t)word;
+}
+
+/* A served GET RESPONSE. before: the card before it. */
+static void spoil_fetched(struct layout *c, const struct layout *before, uint8_t *reply, size_t *count)
+{
+    unsigned word = 256u * reply[*count - 2] + reply[*count - 1], left = waiting_count(&c->response);
+    bool refused = word >> 8 != 0x61 && word != 0x9000;
+
+    if (has_fault("get-response-in-mode-0") && c->response.mode == 0)
+        put_word(reply, count, 0x6985);
+    if (has_fault("get-response-refused-discards") && refused)
+        c->response = (struct response){ .mode = c->response.mode };
+    if (has_fault("get-response-drops-the-challenge") && c->response.mode == 1)
+        memset(&c->session.challenge, 0, CHALLENGE_ROOM + 1);
+    if (has_fault("get-response-keeps-the-challenge-in-mode-0") && c->response.mode == 0)
+        c->session = before->session;
+    if (has_fault("rest-not-moved") && !refused && left > 0)
+        memcpy(c->response.bytes, before->response.bytes, left);
+    if (has_fault("rest-not-cleared") && !refused)
+        memcpy(c->response.bytes + left, before->response.bytes + left, WAITING_ROOM - left);
+    if (has_fault("last-part-ends-61") && word == 0x9000)
+        put_word(reply, count, 0x6100);
+    if (has_fault("rest-ends-9000") && word >> 8 == 0x61)
+        put_word(reply, count, 0x9000);
+    if (has_fault("nothing-waiting-ends-9000") && word == 0x6985)
+        put_word(reply, count, 0x9000);
+    if (has_fault("6c-with-one-less") && word >> 8 == 0x6C)
+        put_word(reply, count, word - 1);
+}
+
+/* Any other command that was served, on a card of mode 1. */
+static void spoil_other(struct layout *c, const struct layout *before, uint8_t *reply, size_t *count)
+{
+    unsigned word = 256u * reply[*count - 2] + reply[*count - 1], waiting = waiting_count(&c->response);
+
+    if (has_fault("61-with-one-less") && word >> 8 == 0x61)
+        put_word(reply, count, 0x6100 + (waiting - 1) % 256);
+    if (has_fault("6100-for-no-data") && word == 0x9000)
+        put_word(reply, count, 0x6100);
+    if (has_fault("9000-for-waiting-data") && word >> 8 == 0x61)
+        put_word(reply, count, 0x9000);
+    if (has_fault("waiting-kept-past-another-command") && waiting == 0)
+        c->response = before->response;
+    if (has_fault("waiting-kept-past-a-refused-command") && waiting == 0 && word != 0x9000)
+        c->response = before->response;
+    if (has_fault("61-drops-the-challenge") && waiting > 0)
+        memset(&c->session.challenge, 0, CHALLENGE_ROOM + 1);
+    if (has_fault("61-leaves-the-current-file") && waiting > 0)
+        c->session.current = before->session.current;
+    if (has_fault("one-waiting-byte-wrong") && waiting > 0)
+        flip(&c->response.bytes[waiting - 1], 0);
+    if (has_fault("data-behind-the-status-word"))
+        memcpy(reply + *count, c->response.bytes, waiting);
+    if (has_fault("data-with-the-answer-too") && waiting > 0) {
+        memcpy(reply, c->response.bytes, waiting);
+        *count = waiting + 2;
+        put_word(reply, count, word);
+    }
+}
+
+static void spoil_waiting(struct limpet_card *card, const struct layout *before, const uint8_t *command, size_t length,
+                          uint8_t *reply, size_t *count)
+{
+    struct layout c;
+
+    memcpy(&c, card, sizeof c);
+    if (is_get_response(command, length))
+        spoil_fetched(&c, before, reply, count);
+    else if (c.response.mode == 1)
+        spoil_other(&c, before, reply, count);
+    memcpy(card, &c, sizeof c);
 }
 
 uint8_t __wrap_limpet_command(struct limpet_card *card, uint8_t *area, size_t area_len,
@@ -164,8 +277,11 @@ uint8_t __wrap_limpet_command(struct limpet_card *card, uint8_t *area, size_t ar
                               const uint8_t *random, size_t random_len,
                               uint8_t *reply, size_t reply_len, size_t *reply_count)
 {
+    struct layout before;
+
     if (has_fault("rights-by-their-lowest-bit"))
         mask_rights(card);
+    memcpy(&before, card, sizeof before);
     uint8_t outcome = __real_limpet_command(card, area, area_len, command, command_len, random, random_len,
                                             reply, reply_len, reply_count);
     bool served = outcome == LIMPET_OK;
@@ -208,13 +324,26 @@ uint8_t __wrap_limpet_command(struct limpet_card *card, uint8_t *area, size_t ar
         return LIMPET_UNSOUND;
     if (has_fault("length-byte-not-counted") && served && command_len > 5 && command[1] == 0xE2)
         count_one_less(card, command[3] >> 3);
+    if (served)
+        spoil_waiting(card, &before, command, command_len, reply, reply_count);
+    if (outcome == LIMPET_UNSOUND && waiting_alone_is_bad(card, area))
+        return LIMPET_OK;
     return outcome;
 }
 
 uint8_t __wrap_limpet_reset(struct limpet_card *card, const uint8_t *area, size_t area_len)
 {
+    struct layout before;
+
+    memcpy(&before, card, sizeof before);
     uint8_t outcome = __real_limpet_reset(card, area, area_len);
 
+    if (has_fault("reset-keeps-what-waits") && outcome == LIMPET_OK)
+        ((struct layout *)card)->response = before.response;
+    if (has_fault("reset-forgets-the-mode") && outcome == LIMPET_OK)
+        ((struct layout *)card)->response.mode = 0;
+    if (has_fault("reset-takes-any-mode") && outcome == LIMPET_UNSOUND && before.response.mode > 1)
+        return LIMPET_OK;
     if (has_fault("reset-changes-the-key") && outcome == LIMPET_OK)
         flip(card, 0);
     if (has_fault("reset-refuses-odd-addresses") && is_odd(card))
@@ -374,6 +503,39 @@ static void cut_at_zero(struct lenient *t)
         t->length = (size_t)(zero - t->bytes);
 }
 
+/* Where the mode stands: the sixth field of the fourth line. NULL where there is none. */
+static uint8_t *mode_in(struct lenient *t)
+{
+    uint8_t *at = t->bytes, *end = t->bytes + t->length;
+
+    for (int i = 0; i < 3 + 5 && at != NULL; i++) {
+        at = memchr(at, i < 3 ? '\n' : '\t', (size_t)(end - at));
+        at = at != NULL ? at + 1 : NULL;
+    }
+    return at != NULL && at < end ? at : NULL;
+}
+
+/* As where the mode, when it is this one, is taken for 1. */
+static void take_for_mode_1(struct lenient *t, char mode)
+{
+    uint8_t *at = mode_in(t);
+
+    if (at != NULL && *at == (uint8_t)mode)
+        *at = '1';
+}
+
+/* As where one byte more may wait than there is room for: the first is left out. */
+static void drop_surplus(struct lenient *t)
+{
+    uint8_t *mode = mode_in(t), *end = t->bytes + t->length;
+    uint8_t *newline = mode != NULL ? memchr(mode, '\n', (size_t)(end - mode)) : NULL;
+
+    if (newline == NULL || newline - mode != 2 + 2 * (WAITING_ROOM + 1))
+        return;
+    memmove(mode + 2, mode + 4, (size_t)(end - (mode + 4)));
+    t->length -= 2;
+}
+
 static void be_lenient(struct lenient *t)
 {
     if (has_text_fault("reader-takes-lower-case"))
@@ -398,6 +560,12 @@ static void be_lenient(struct lenient *t)
         lower_129(t);
     if (has_text_fault("reader-stops-at-zero"))
         cut_at_zero(t);
+    if (has_text_fault("reader-takes-mode-2"))
+        take_for_mode_1(t, '2');
+    if (has_text_fault("reader-takes-waiting-bytes-in-mode-0"))
+        take_for_mode_1(t, '0');
+    if (has_text_fault("reader-takes-257-waiting-bytes"))
+        drop_surplus(t);
 }
 
 /* As where a reader leaves what was in the area past the last file. */
@@ -454,6 +622,10 @@ uint8_t __wrap_limpet_from_text(struct limpet_card *card, uint8_t *area, size_t 
         forget(card, offsetof(struct layout, session.current), 1);
     if (has_text_fault("reader-forgets-the-rights") && served)
         forget(card, offsetof(struct layout, session.rights), CREDENTIALS);
+    if (has_text_fault("reader-forgets-what-waits") && served)
+        forget(card, offsetof(struct layout, response.count1), 2 + WAITING_ROOM);
+    if (has_text_fault("reader-forgets-the-mode") && served)
+        forget(card, offsetof(struct layout, response.mode), 1);
     if (has_text_fault("reader-writes-the-text") && text_len > 0)
         flip(text, (ptrdiff_t)text_len - 1);
     if (has_text_fault("reader-writes-past-the-card"))

@@ -20,6 +20,7 @@
 #include <sys/mman.h>
 #include <unistd.h>
 
+#include "layout.h"
 #include "limpetnook.h"
 #include "plain_text.h"
 #ifdef BY_ITSELF
@@ -269,7 +270,7 @@ static struct part any_line(struct draft *d)
 }
 
 /* A file's line has tabs, and the lines of its contents have none. */
-enum { LINES_BEFORE_FILES = 4, MOST_BLOCKS = 64 };
+enum { LINES_BEFORE_FILES = 4, FIELDS_BEFORE_MODE = 5, MOST_BLOCKS = 64 };
 
 struct blocks {
     struct part at[MOST_BLOCKS];
@@ -424,6 +425,32 @@ static void change_tries(struct draft *d)
     snprintf(fields, sizeof fields, "%u\t%u\n", limit, tries);
     if (value.to < line.to)
         put_string(d, (struct part){ value.to, line.to }, fields);
+}
+
+/* Mode and waiting bytes together: sound as a rule, at an edge now and then. */
+static void change_waiting(struct draft *d)
+{
+    enum { MOST = WAITING_ROOM + 1 };
+    static const unsigned edges[] = { 0, 1, 2, 16, WAITING_ROOM - 1, WAITING_ROOM, MOST };
+    struct part line = line_at(d, LINES_BEFORE_FILES - 1), mode = { line.from, line.from };
+    unsigned count = below(d, 2) > 0 ? edges[below(d, sizeof edges / sizeof *edges)] : below(d, 24);
+    char fields[2 + 2 * MOST + 2] = "1\t";
+    size_t length = 2;
+
+    for (int i = 0; i < FIELDS_BEFORE_MODE; i++)
+        mode = up_to(d, mode.to, '\t');
+    if (mode.to >= line.to)
+        return;
+    if (below(d, 4) == 0) {
+        fields[0] = '0';
+        count = below(d, 4) == 0 ? count : 0;
+    }
+    for (unsigned i = 0; i < 2 * count; i++)
+        fields[length++] = hex[below(d, 16)];
+    if (count == 0)
+        fields[length++] = '-';
+    fields[length++] = '\n';
+    put(d, (struct part){ mode.to, line.to }, fields, length);
 }
 
 /* What other writers of lines might do: other ends of lines, other blanks, small letters. */
@@ -646,7 +673,7 @@ size_t LLVMFuzzerCustomMutator(uint8_t *data, size_t size, size_t room, unsigned
 {
     static void (*const changes[])(struct draft *) = {
         change_bytes, change_bytes, change_digit, change_digit, change_byte_in_hex, change_byte_in_hex, change_field, change_field,
-        resize_field, change_tries, change_form, add_field, remove_line, copy_line, move_line, remove_block, remove_block, move_block,
+        resize_field, change_tries, change_waiting, change_waiting, change_form, add_field, remove_line, copy_line, move_line, remove_block, remove_block, move_block,
         copy_block, add_file, add_file, change_current, cut_off
     };
     struct draft d = { data, size, room, seed * 2654435761u | 1u };
@@ -723,6 +750,18 @@ static void told(struct held *h, const char *command)
         stop(command, "a command of a card in the making is refused");
 }
 
+/* No calls leave a challenge of 16 bytes and 256 bytes that wait, but there is such a card. */
+static void have_all_wait(struct held *h)
+{
+    struct layout c;
+
+    memcpy(&c, h->card.bytes, sizeof c);
+    c.response.mode = 1;
+    set_waiting_count(&c.response, WAITING_ROOM);
+    memset(c.response.bytes, 0xA7, WAITING_ROOM);
+    memcpy(h->card.bytes, &c, sizeof c);
+}
+
 /* All values and numbers are as long as can be, and so many files of these sizes take the most lines that the area's bytes can take. */
 static void with_longest_text(struct held *h)
 {
@@ -744,6 +783,7 @@ static void with_longest_text(struct held *h)
     told(h, "00 20 0000 10 39383736353433323130393837363534");
     told(h, "00 20 0001 10 39383736353433323130393837363534");
     told(h, "00 84 0000 10");
+    have_all_wait(h);
 }
 
 enum { SEEDS = SORTS + 1 };

@@ -85,6 +85,8 @@ static const char *const commands[] = {
     "00 B0 0000 01",
     "80 E0 011D 05 28 0001 00 00",
     "00 24 0101 06 363534333231",
+    "00 C0 0000 00",
+    "00 C0 0000 02",
     "",
 };
 enum { COMMANDS = sizeof commands / sizeof commands[0] };

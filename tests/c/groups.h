@@ -35,7 +35,7 @@ extern struct pattern patterns[SORTS];
 void make_patterns(void);
 void keep(struct pattern *p, const struct held *h);
 
-/* The one with most in it: files of all types, rights, a challenge. */
+/* The one with most in it: files of all types, rights, a challenge, bytes that wait. */
 const struct pattern *in_use(void);
 
 /* With a part of its area, or with bytes behind it. */

@@ -74,7 +74,7 @@ static uint8_t issue(struct driven *d, const struct line *l)
 {
     struct order o = {
         given_of(&l->key), given_field(l->admin_pin), given_field(l->user_pin),
-        l->device_limit, l->admin_limit, l->user_limit
+        l->device_limit, l->admin_limit, l->user_limit, l->mode
     };
     struct lent earlier = d->held.card;
 

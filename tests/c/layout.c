@@ -22,6 +22,9 @@ static const struct {
     { offsetof(struct layout, session.current), "current file" },
     { offsetof(struct layout, session.challenge), "challenge" },
     { offsetof(struct layout, session.length), "challenge's length" },
+    { offsetof(struct layout, response.mode), "mode" },
+    { offsetof(struct layout, response.count1), "number of waiting bytes" },
+    { offsetof(struct layout, response.bytes), "waiting bytes" },
 };
 
 size_t field_at(size_t place)
@@ -178,6 +181,25 @@ static bool sound_challenge(const struct session *s)
         && are_zero(s->challenge, s->length, CHALLENGE_ROOM);
 }
 
+unsigned waiting_count(const struct response *r)
+{
+    return 256u * r->count1 + r->count2;
+}
+
+void set_waiting_count(struct response *r, unsigned count)
+{
+    r->count1 = (uint8_t)(count / 256);
+    r->count2 = (uint8_t)(count % 256);
+}
+
+/* "In a sound mode 0 card nothing waits", and "waiting bytes past those that wait" are 00. */
+static bool sound_response(const struct response *r)
+{
+    unsigned most = r->mode == 0 ? 0 : WAITING_ROOM, count = waiting_count(r);
+
+    return r->mode <= 1 && count <= most && are_zero(r->bytes, count, WAITING_ROOM);
+}
+
 bool is_sound(const uint8_t *card, const uint8_t *area)
 {
     struct layout c;
@@ -186,5 +208,6 @@ bool is_sound(const uint8_t *card, const uint8_t *area)
     return sound_credentials(&c)
         && sound_directory(&c.directory, area)
         && c.session.current <= c.directory.count
-        && sound_challenge(&c.session);
+        && sound_challenge(&c.session)
+        && sound_response(&c.response);
 }

@@ -1,8 +1,8 @@
 /*
  * The bytes of a card, for tests alone: a caller has no business there. They
  * lie as the structs of crates/rules and crates/files have them. And what
- * document 01, "What a card holds", and requests R-1 and R-5 of document 02
- * say of them.
+ * document 01, "What a card holds", and requests R-1, R-5 and R-6 of document
+ * 02 say of them.
  */
 #ifndef LAYOUT_H
 #define LAYOUT_H
@@ -13,7 +13,7 @@
 
 #include "limpetnook.h"
 
-enum { FILES = 16, VALUE_ROOM = 16, CHALLENGE_ROOM = 16 };
+enum { FILES = 16, VALUE_ROOM = 16, CHALLENGE_ROOM = 16, WAITING_ROOM = 256 };
 
 /* The credentials' numbers. */
 enum { DEVICE, ADMIN, USER, CREDENTIALS };
@@ -47,23 +47,34 @@ struct session {
     uint8_t length;
 };
 
+/* What waits for GET RESPONSE, and how many bytes that are, high byte first. */
+struct response {
+    uint8_t mode, count1, count2;
+    uint8_t bytes[WAITING_ROOM];
+};
+
 struct layout {
     struct credential credentials[CREDENTIALS];
     struct directory directory;
     struct session session;
+    struct response response;
 };
 
 _Static_assert(sizeof(struct layout) == LIMPET_CARD_SIZE, "the card is laid out in another way");
 _Static_assert(_Alignof(struct layout) == 1, "the card has to be aligned");
 
 /* Which field the byte at that place belongs to, and its name, for reports. */
-enum { FIELDS = 15 };
+enum { FIELDS = 18 };
 size_t field_at(size_t place);
 const char *field_name(size_t field);
 
 /* The bytes of the area that a file takes, 0 where its type or size is bad; and how many of them records of type 2C use. */
 unsigned file_size(const struct file *f);
 unsigned used_bytes(const struct file *f);
+
+/* How many bytes wait, by the two bytes that count them. */
+unsigned waiting_count(const struct response *r);
+void set_waiting_count(struct response *r, unsigned count);
 
 /* Whether these bytes and those of an area of LIMPET_AREA_SIZE are together a sound state, by the papers. */
 bool is_sound(const uint8_t *card, const uint8_t *area);

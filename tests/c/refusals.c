@@ -222,6 +222,18 @@ static void issue_limits(void)
     end(g);
 }
 
+static void issue_modes(void)
+{
+    struct group g = begin("issue: the mode, 0 to 65,535");
+
+    for (unsigned mode = 0; mode <= 65535; mode += is_short && mode >= 300 && mode < 65000 ? 317 : 1) {
+        struct order o = good_order();
+        o.mode = (uint16_t)mode;
+        issue_over(in_use()->card, LIMPET_AREA_SIZE, &o);
+    }
+    end(g);
+}
+
 /* Each byte of a PIN, at each place of the shortest and of the longest. */
 static void issue_digits(void)
 {
@@ -246,7 +258,7 @@ static void issue_precedence(void)
 {
     struct group g = begin("issue: several wrong at once");
 
-    for (unsigned choice = 0; choice < 128; choice++) {
+    for (unsigned choice = 0; choice < 256; choice++) {
         struct order o = good_order();
         if (choice & 1)
             o.key.length = 15;
@@ -260,7 +272,9 @@ static void issue_precedence(void)
             o.user_pin = given_text("12345678901234567");
         if (choice & 32)
             o.user_limit = 65535;
-        issue_over(in_use()->card, choice & 64 ? 4095 : LIMPET_AREA_SIZE, &o);
+        if (choice & 64)
+            o.mode = 2;
+        issue_over(in_use()->card, choice & 128 ? 4095 : LIMPET_AREA_SIZE, &o);
     }
     end(g);
 }
@@ -277,6 +291,7 @@ static void refuse_all(void)
     issue_lengths();
     issue_nulls();
     issue_limits();
+    issue_modes();
     issue_digits();
     issue_precedence();
     try_spoiled_cards();

@@ -19,7 +19,7 @@
 #include "watched.h"
 
 enum {
-    MOST_FIELDS = 6,
+    MOST_FIELDS = 7,
     MOST_TALLIES = 100,
     MOST_SHOWN_TEXTS = 3,
     LONGEST_AREA = 2 * LIMPET_AREA_SIZE,
@@ -80,7 +80,7 @@ static size_t fields_of(int letter)
 {
     switch (letter) {
     case 'I':
-        return 6;
+        return 7;
     case 'C':
     case 'T':
         return 4;
@@ -370,18 +370,18 @@ static void try_text(struct run *r, struct bytes name, const struct model *m)
 
 /* ---- scripts ---- */
 
-static uint16_t limit_of(struct bytes b)
+static uint16_t number_of(struct bytes b)
 {
     if (b.len != 2)
-        bad_input("a limit of another length");
+        bad_input("a limit or a mode of another length");
     return (uint16_t)(b.at[0] | b.at[1] << 8);
 }
 
-static void issue(struct run *r, const struct bytes fields[6])
+static void issue(struct run *r, const struct bytes fields[7])
 {
     struct order o = {
         given_of(fields[0]), given_of(fields[2]), given_of(fields[4]),
-        limit_of(fields[1]), limit_of(fields[3]), limit_of(fields[5])
+        number_of(fields[1]), number_of(fields[3]), number_of(fields[5]), number_of(fields[6])
     };
 
     if (watched_issue(&r->first, &o) != LIMPET_OK)

@@ -39,7 +39,7 @@ static void command(const uint8_t *bytes, size_t length, unsigned due)
 static void issue(size_t pin_length)
 {
     if (limpet_issue((struct limpet_card *)card, area, sizeof area, c1_key, sizeof c1_key, 100,
-                     pin, pin_length, 100, pin, pin_length, 100) != LIMPET_OK) {
+                     pin, pin_length, 100, pin, pin_length, 100, 0) != LIMPET_OK) {
         fprintf(stderr, "verifies: a good order is refused\n");
         exit(EXIT_FAILURE);
     }

@@ -161,7 +161,7 @@ static uint8_t due_of_issue(const struct held *h, const struct order *o)
         return LIMPET_BAD_AREA;
     if (o->key.length != LIMPET_KEY_SIZE || !good_limit(o->device_limit)
         || !good_pin(o->admin_pin) || !good_limit(o->admin_limit)
-        || !good_pin(o->user_pin) || !good_limit(o->user_limit))
+        || !good_pin(o->user_pin) || !good_limit(o->user_limit) || o->mode > 1)
         return LIMPET_BAD_ISSUE;
     return LIMPET_OK;
 }
@@ -173,7 +173,7 @@ static void set_credential(struct credential *x, struct given value, uint16_t li
     x->tries.left = x->tries.limit = (uint8_t)limit;
 }
 
-/* The card that a good order makes: "full tries, no files, no rights, no challenge". */
+/* The card that a good order makes: "full tries, no files, no rights, no challenge", in its mode, with nothing waiting. */
 static struct layout issued_card(const struct order *o)
 {
     struct layout c;
@@ -182,6 +182,7 @@ static struct layout issued_card(const struct order *o)
     set_credential(&c.credentials[DEVICE], o->key, o->device_limit);
     set_credential(&c.credentials[ADMIN], o->admin_pin, o->admin_limit);
     set_credential(&c.credentials[USER], o->user_pin, o->user_limit);
+    c.response.mode = (uint8_t)o->mode;
     return c;
 }
 
@@ -209,7 +210,7 @@ uint8_t watched_issue(struct held *h, const struct order *o)
     uint8_t outcome = limpet_issue(card_of(h), start(&h->area, h->has_no_area), h->area.length,
                                    start(&key, o->key.is_null), key.length, o->device_limit,
                                    start(&admin, o->admin_pin.is_null), admin.length, o->admin_limit,
-                                   start(&user, o->user_pin.is_null), user.length, o->user_limit);
+                                   start(&user, o->user_pin.is_null), user.length, o->user_limit, o->mode);
 
     check_outcome(outcome, due_of_issue(h, o));
     check_given("key", &key, o->key);
@@ -294,6 +295,133 @@ static void check_held(const struct held *h, uint8_t outcome, const uint8_t *car
     }
 }
 
+/* How a served command must be answered, and the card and the area that it must leave. */
+struct due {
+    uint8_t reply[LIMPET_REPLY_SIZE];
+    size_t count;
+    struct layout card;
+    const uint8_t *area;
+};
+
+static void set_reply(struct due *d, const uint8_t *data, size_t length, unsigned word)
+{
+    if (length > 0)
+        memcpy(d->reply, data, length);
+    d->reply[length] = (uint8_t)(word >> 8);
+    d->reply[length + 1] = (uint8_t)word;
+    d->count = length + 2;
+}
+
+static void check_due(const struct held *h, const struct answer *a, const struct due *d)
+{
+    if (a->count != d->count || memcmp(a->reply, d->reply, d->count) != 0)
+        wrong("the answer has %zu bytes and ends %02X%02X, and %zu are due that end %02X%02X; or its data are others", a->count,
+              a->reply[a->count - 2], a->reply[a->count - 1], d->count, d->reply[d->count - 2], d->reply[d->count - 1]);
+    check_card(h, (const uint8_t *)&d->card, "the card or what waits is not as the command must leave it");
+    check_area(h, d->area);
+}
+
+static bool is_frame(struct given command)
+{
+    if (command.length < 6)
+        return command.length >= 4;
+    size_t lc = command.bytes[4];
+    return lc > 0 && (command.length == 5 + lc || command.length == 6 + lc);
+}
+
+/* What the framing refuses is none. */
+static bool is_get_response(struct given command)
+{
+    return is_frame(command) && command.bytes[0] == 0x00 && command.bytes[1] == 0xC0;
+}
+
+/* "6A86, 6700, 6985 nothing waiting, 6C and the count when Le is over it"; 0 where it is not refused. Le 00 is over none. */
+static unsigned refusal_of_get_response(struct given command, unsigned waiting)
+{
+    if (command.bytes[2] != 0 || command.bytes[3] != 0)
+        return 0x6A86;
+    if (command.length != 5)
+        return 0x6700;
+    if (waiting == 0)
+        return 0x6985;
+    return command.bytes[4] > waiting ? 0x6C00 + waiting : 0;
+}
+
+/* On a card of mode 1. d->card is as it was before the command; a refused one keeps what waits, and each the challenge. */
+static void due_of_get_response(struct given command, struct due *d)
+{
+    struct response *r = &d->card.response;
+    unsigned waiting = waiting_count(r), refusal = refusal_of_get_response(command, waiting);
+
+    if (refusal != 0) {
+        set_reply(d, r->bytes, 0, refusal);
+        return;
+    }
+    unsigned taken = command.bytes[4] == 0 ? waiting : command.bytes[4], left = waiting - taken;
+    set_reply(d, r->bytes, taken, left > 0 ? 0x6100 + left : 0x9000);
+    memmove(r->bytes, r->bytes + taken, left);
+    memset(r->bytes + left, 0, WAITING_ROOM - left);
+    set_waiting_count(r, left);
+}
+
+/* Mode 0: it is not in the list, and drops the challenge as any other command does. */
+static void due_of_unlisted(struct due *d)
+{
+    set_reply(d, NULL, 0, 0x6D00);
+    memset(d->card.session.challenge, 0, CHALLENGE_ROOM);
+    d->card.session.length = 0;
+}
+
+/* Any other command on a card of mode 1: what it does to the same card in mode 0, with its data made to wait. */
+static void due_as_in_mode_0(struct given command, struct given random, struct held *other, struct due *d)
+{
+    struct response *r = &d->card.response;
+
+    memset(r, 0, sizeof *r);
+    memcpy(other->card.bytes, &d->card, sizeof d->card);
+    memcpy(other->area.bytes, d->area, LIMPET_AREA_SIZE);
+    struct answer a = watched_command(other, command, random, LIMPET_REPLY_SIZE, false);
+    if (a.outcome != LIMPET_OK || a.count < 2 || a.count > LIMPET_REPLY_SIZE) {
+        wrong("the same command is refused in mode 0");
+        return;
+    }
+    size_t data = a.count - 2;
+    unsigned word = 256u * a.reply[data] + a.reply[data + 1];
+    if (data > 0 && word != 0x9000)
+        wrong("data come with %04X in mode 0", word);
+    memcpy(&d->card, other->card.bytes, sizeof d->card);
+    d->area = other->area.bytes;
+    r->mode = 1;
+    set_waiting_count(r, (unsigned)data);
+    memcpy(r->bytes, a.reply, data);
+    set_reply(d, NULL, 0, data > 0 ? 0x6100 + (unsigned)data % 256 : word);
+}
+
+/* R-6 of a served command. card and area: as they were before. */
+static void check_waiting(const struct held *h, struct given command, struct given random, const struct answer *a,
+                          const uint8_t *card, const uint8_t *area)
+{
+    struct due d = { .area = area };
+
+    memcpy(&d.card, card, sizeof d.card);
+    if (d.card.response.mode == 0) {
+        if (is_get_response(command)) {
+            due_of_unlisted(&d);
+            check_due(h, a, &d);
+        } else if (a->reply[a->count - 2] == 0x61) {
+            wrong("something is to wait in mode 0");
+        }
+    } else if (is_get_response(command)) {
+        due_of_get_response(command, &d);
+        check_due(h, a, &d);
+    } else {
+        struct held other = { .card = lend(card, LIMPET_CARD_SIZE), .area = lend(area, LIMPET_AREA_SIZE) };
+        due_as_in_mode_0(command, random, &other, &d);
+        check_due(h, a, &d);
+        let_go(&other);
+    }
+}
+
 struct answer watched_command(struct held *h, struct given command, struct given random,
                               size_t reply_length, bool reply_is_null)
 {
@@ -325,6 +453,8 @@ struct answer watched_command(struct held *h, struct given command, struct given
     check_guards("count", &b.count);
     check_reply(&b.reply, reply, &a);
     check_held(h, a.outcome, card, area);
+    if (a.outcome == LIMPET_OK && due == LIMPET_OK && 2 <= a.count && a.count <= LIMPET_REPLY_SIZE)
+        check_waiting(h, command, random, &a, card, area);
     free(card);
     free(area);
     give_back_buffers(&b);
@@ -339,7 +469,7 @@ static uint8_t due_of_reset(const struct held *h)
     return is_sound(h->card.bytes, h->area.bytes) ? LIMPET_OK : LIMPET_UNSOUND;
 }
 
-/* "Reset clears rights, current file and challenge only." */
+/* "Reset clears rights, current file and challenge only", and "discards what waits". */
 uint8_t watched_reset(struct held *h)
 {
     struct layout due;
@@ -350,8 +480,10 @@ uint8_t watched_reset(struct held *h)
     uint8_t outcome = limpet_reset(card_of(h), start(&h->area, h->has_no_area), h->area.length);
 
     check_outcome(outcome, due_outcome);
-    if (outcome == LIMPET_OK)
+    if (outcome == LIMPET_OK) {
         memset(&due.session, 0, sizeof due.session);
+        due.response = (struct response){ .mode = due.response.mode };
+    }
     check_card(h, (const uint8_t *)&due,
                outcome == LIMPET_OK ? "a reset cleared too much or too little" : "the card was changed by a refused reset");
     check_area(h, area);

@@ -1,7 +1,9 @@
 /*
  * The calls on a card, each watched: its outcome is held to document 01's, and
- * so is every byte that a call lends and the guard bytes around it. What is
- * wrong is printed to standard error and counted.
+ * so is every byte that a call lends and the guard bytes around it. A command on
+ * a card of mode 1 is held to request R-6: to the same command on the same card
+ * in mode 0, and GET RESPONSE to what waits. What is wrong is printed to
+ * standard error and counted.
  */
 #ifndef WATCHED_H
 #define WATCHED_H
@@ -28,7 +30,7 @@ struct held {
 
 struct order {
     struct given key, admin_pin, user_pin;
-    uint16_t device_limit, admin_limit, user_limit;
+    uint16_t device_limit, admin_limit, user_limit, mode;
 };
 
 enum { LONGEST_REPLY = 4096 };

@@ -1,4 +1,4 @@
-"""A second reading of document 01, with requests R-1, R-2 and R-5 of document 02: the card, in plain Python.
+"""A second reading of document 01, with requests R-1, R-2, R-5 and R-6 of document 02: the card, in plain Python.
 
 This model was written from the papers alone. It exists to be compared with the proved program, so it favours the
 order and the words of the papers over speed or cleverness, and shares nothing with the code that it is compared to.
@@ -120,6 +120,12 @@ NEVER = 0x0F
 
 NO_CHALLENGE = b""
 
+# Mode 0 gives reply data at once; in mode 1 they wait for GET RESPONSE.
+AT_ONCE, FETCHED = 0, 1
+MODES = (AT_ONCE, FETCHED)
+MOST_WAITING = 256
+NOTHING_WAITS = b""
+
 
 class Credential:
     """The device key or a PIN, with its limit, its tries left and whether its right is held in this session."""
@@ -202,11 +208,11 @@ class File:
 class Card:
     """Credentials, directory and session. The data area is lent and stands beside it. As made here: a blank state.
 
-    PINs and the challenge are kept in exactly their length and the directory in exactly its files, so the unused
-    fields behind them do not exist here.
+    PINs, the challenge and the waiting bytes are kept in exactly their length and the directory in exactly its files, so
+    the unused fields behind them do not exist here.
     """
 
-    __slots__ = ("device", "admin", "user", "files", "current", "challenge")
+    __slots__ = ("device", "admin", "user", "files", "current", "challenge", "mode", "waiting")
 
     def __init__(self):
         self.device = Credential()
@@ -215,6 +221,8 @@ class Card:
         self.files = []
         self.current = None
         self.challenge = NO_CHALLENGE
+        self.mode = AT_ONCE
+        self.waiting = NOTHING_WAITS
 
 
 def is_pin(value):
@@ -308,7 +316,11 @@ def is_sound(card, area):
 
     if card.current is not None and card.current not in card.files:
         return False
-    return len(card.challenge) in (0, 4, 8, 16)
+    if len(card.challenge) not in (0, 4, 8, 16):
+        return False
+    if card.mode not in MODES:
+        return False
+    return len(card.waiting) <= (MOST_WAITING if card.mode == FETCHED else 0)
 
 
 # ---------------------------------------------------------------------------------------------------------------------
@@ -318,7 +330,7 @@ def is_sound(card, area):
 SMALLEST_REPLY = 258
 
 
-def issue(area, key, key_limit, admin_pin, admin_limit, user_pin, user_limit):
+def issue(area, key, key_limit, admin_pin, admin_limit, user_pin, user_limit, mode):
     """Outcome and card. A refused issue gives a blank state and leaves the area as it is."""
     if len(area) != AREA_SIZE:
         return 2, Card()
@@ -326,16 +338,19 @@ def issue(area, key, key_limit, admin_pin, admin_limit, user_pin, user_limit):
         return 5, Card()
     if not is_limit(key_limit) or not is_limit(admin_limit) or not is_limit(user_limit):
         return 5, Card()
+    if mode not in MODES:
+        return 5, Card()
     card = Card()
     card.device = Credential(key, key_limit)
     card.admin = Credential(admin_pin, admin_limit)
     card.user = Credential(user_pin, user_limit)
+    card.mode = mode
     area[:] = bytes(AREA_SIZE)
     return 0, card
 
 
 def reset(card, area):
-    """Clears rights, current file and challenge only. The area is lent to be looked at."""
+    """Clears rights, current file, challenge and what waits only. The area is lent to be looked at."""
     if len(area) != AREA_SIZE:
         return 2
     if not is_sound(card, area):
@@ -344,6 +359,7 @@ def reset(card, area):
         credential.held = False
     card.current = None
     card.challenge = NO_CHALLENGE
+    card.waiting = NOTHING_WAITS
     return 0
 
 
@@ -400,7 +416,7 @@ def frame_of(sent):
 
 
 def serve(card, area, sent, random):
-    """A served command: data and SW. The challenge serves only the command that follows it."""
+    """A served command: data and SW. The challenge serves only the command that follows it, GET RESPONSE in mode 1 apart."""
     frame = frame_of(sent)
     row = None
     if frame is None:
@@ -409,19 +425,29 @@ def serve(card, area, sent, random):
         answer = refused(0x6E00)
     else:
         row = ROWS.get((sent[0], sent[1]))
+        if row is get_response and card.mode == AT_ONCE:
+            row = None
         if row is None:
             answer = refused(0x6D00)
         else:
             answer = row(card, area, frame, random)
 
+    # Refused or not, it keeps the challenge and what it did not give.
+    if row is get_response:
+        return answer
     # Only a GET CHALLENGE that ends 9000 leaves a challenge.
     if row is not get_challenge or answer[1] != 0x9000:
         card.challenge = NO_CHALLENGE
+    # What waited is discarded, and in mode 1 what this command gives waits in its place.
+    card.waiting = NOTHING_WAITS
+    if card.mode == FETCHED and answer[0] != b"":
+        card.waiting = answer[0]
+        return still_waiting(card)
     return answer
 
 
 # ---------------------------------------------------------------------------------------------------------------------
-# The twelve commands
+# The twelve commands, and GET RESPONSE
 #
 # Each takes the card, the area, the frame and the random input, runs its checks in the order written and gives data
 # and SW. The first check that fails gives the SW, no data, and a change only where said.
@@ -734,7 +760,28 @@ def get_challenge(card, area, frame, random):
     return card.challenge, 0x9000
 
 
-# The list: twelve rows of CLA, INS, name and rule.
+def still_waiting(card):
+    """No data, 61 and the count, 00 for 256. It counts as 9000."""
+    return b"", 0x6100 | len(card.waiting) & 0xFF
+
+
+def get_response(card, area, frame, random):
+    """In mode 1 only. One that is refused keeps what waits."""
+    if not p_is(frame, 0x00, 0x00):
+        return refused(0x6A86)
+    if frame.case != 2:
+        return refused(0x6700)
+    if card.waiting == NOTHING_WAITS:
+        return refused(0x6985)
+    # Here Le 00 is all that wait.
+    wanted = len(card.waiting) if frame.le == 256 else frame.le
+    if wanted > len(card.waiting):
+        return refused(0x6C00 | len(card.waiting))
+    part, card.waiting = card.waiting[:wanted], card.waiting[wanted:]
+    return part, still_waiting(card)[1] if card.waiting else 0x9000
+
+
+# The list: thirteen rows of CLA, INS, name and rule.
 LIST = (
     (0x00, 0xA4, "SELECT", select),
     (0x00, 0xB0, "READ BINARY", read_binary),
@@ -748,5 +795,6 @@ LIST = (
     (0x00, 0x2C, "RELOAD PIN", reload_pin),
     (0x80, 0xE0, "CREATE FILE", create_file),
     (0x00, 0x84, "GET CHALLENGE", get_challenge),
+    (0x00, 0xC0, "GET RESPONSE", get_response),
 )
 ROWS = {(cla, ins): rule for cla, ins, _, rule in LIST}

@@ -79,6 +79,13 @@ def hex_of(data):
     return data.hex().upper().encode("ascii")
 
 
+def as_in_mode_0(card, sent, data, sw):
+    """Data and SW of a command that was just answered: 61xx counts as 9000, and what waits is what the command shows."""
+    if sw >> 8 == 0x61 and tuple(sent[:2]) != INS["GET RESPONSE"]:
+        return card.waiting, 0x9000
+    return data, sw
+
+
 class Full(Exception):
     """As many lines as asked for are written."""
 
@@ -92,6 +99,8 @@ class Generator:
         self.lines = []
         # How often a wrong presentation is left out when few tries are left; each card has its own.
         self.care = 0.9
+        # How often what waits is fetched at once; each card has its own.
+        self.patience = 0.8
         # PINs and cryptograms that were right once: presenting them again must fail.
         self.old_pins = []
         self.old_cryptograms = []
@@ -125,11 +134,17 @@ class Generator:
         sent = sent[:300]
         if len(sent) + len(random) > 500:
             random = random[:16]
-        return self.put(b"CMD\t" + hex_of(sent) + b"\t" + hex_of(random))
+        answer = self.put(b"CMD\t" + hex_of(sent) + b"\t" + hex_of(random))
+        if self.waits() and dice.chance(self.patience):
+            self.fetch()
+        return answer
 
     def surely(self, sent):
-        """A command that serves a plan and is not spoiled."""
-        return self.put(b"CMD\t" + hex_of(sent) + b"\t" + hex_of(self.dice.bytes(16)))
+        """A command that serves a plan and is not spoiled. What waits is fetched without a mistake that would drop a challenge."""
+        answer = self.put(b"CMD\t" + hex_of(sent) + b"\t" + hex_of(self.dice.bytes(16)))
+        if self.waits() and self.dice.chance(self.patience):
+            self.fetch(mistakes=False)
+        return answer
 
     def spoiled(self, sent):
         """One thing wrong with a command that was meant well."""
@@ -169,6 +184,79 @@ class Generator:
             if dice.chance(0.5):
                 changed.append(dice.below(256))
         return bytes(changed)
+
+    # ------------------------------------------------------------------------------------------------- what waits
+
+    def waits(self):
+        return len(self.card.waiting) if self.card is not None else 0
+
+    def response_le(self):
+        """Le of a GET RESPONSE: all by 00 or by their number, one more, one less, a part, or any."""
+        dice, waits = self.dice, self.waits()
+        return dice.weighted((
+            (0, 42), (waits & 0xFF, 20), ((waits + 1) & 0xFF, 5), (max(1, waits - 1), 6), (1, 4), (255, 2),
+            (dice.between(1, max(1, min(waits, 255))), 17), (dice.below(256), 4)))
+
+    def get_response(self, mistakes=True):
+        """One GET RESPONSE, mostly a good one; with mistakes also frames that are broken or of another class."""
+        dice = self.dice
+        kind = dice.weighted((("good", 84), ("p", 4), ("case", 4), ("unserved", 2), ("spoiled", 4 if mistakes else 0)))
+        sent, random = case_2("GET RESPONSE", 0, 0, self.response_le()), dice.bytes(16)
+        if kind == "p":
+            sent = case_2("GET RESPONSE", *dice.pick(((0, 1), (1, 0), (0, 0x80), (0xFF, 0xFF))), self.response_le())
+        elif kind == "case":
+            sent = dice.pick((case_1("GET RESPONSE", 0, 0), case_3("GET RESPONSE", 0, 0, dice.bytes(dice.between(1, 4))),
+                              case_3("GET RESPONSE", 0, 0, b"\x01") + b"\x00", case_1("GET RESPONSE", 0, 1)))
+        elif kind == "unserved":
+            random = dice.bytes(dice.pick((0, 15, 17)))
+        elif kind == "spoiled":
+            sent = self.spoiled(sent)
+        return self.put(b"CMD\t" + hex_of(sent) + b"\t" + hex_of(random))
+
+    def fetch(self, mistakes=True):
+        """Mostly one or two GET RESPONSE, now and then many, until nothing waits or some still does; at times one more."""
+        dice = self.dice
+        for _ in range(dice.weighted(((1, 50), (2, 30), (4, 15), (16, 2)))):
+            if self.waits() == 0:
+                break
+            self.get_response(mistakes)
+            if mistakes and self.waits() and dice.chance(0.3):
+                self.disturb()
+        if self.waits() and dice.chance(0.6):
+            self.put(b"CMD\t00C0000000\t" + hex_of(dice.bytes(16)))
+        if dice.chance(0.05):
+            self.get_response(mistakes)
+
+    def disturb(self):
+        """Something while data wait, and then GET RESPONSE: calls that are not served keep them, all others discard them."""
+        dice = self.dice
+        kind = dice.below(9)
+        if kind == 0:
+            self.put(b"RESET")
+        elif kind == 1:
+            self.put(self.bad_line())
+        elif kind == 2:
+            self.put(self.refused_issue())
+        elif kind == 3:
+            self.put(b"CMD\t00200001\t" + hex_of(dice.bytes(dice.pick((0, 15, 17)))))
+        else:
+            sent = dice.pick((
+                b"\x00\xC0\x00", b"\x00\xC0\x00\x00\x00\x01", b"\x80\xC0\x00\x00\x00", b"\x01\xC0\x00\x00\x00",
+                b"\x00\xC1\x00\x00\x00", b"\x00\xC4\x00\x00", case_1("VERIFY", 0, dice.below(2)), dice.bytes(dice.below(4)),
+                case_3("SELECT", 0, 0, b"\x3F\x00"), case_3("SELECT", 0, 0, b"\x3F\x01"), case_2("GET CHALLENGE", 0, 0, 5)))
+            self.put(b"CMD\t" + hex_of(sent) + b"\t" + hex_of(dice.bytes(16)))
+        self.put(b"CMD\t00C0000000\t" + hex_of(dice.bytes(16)))
+
+    def fetch_nothing(self):
+        """GET RESPONSE where nothing waits, or in mode 0, and what comes of a challenge that stands."""
+        dice = self.dice
+        if dice.chance(0.5):
+            self.surely(case_2("GET CHALLENGE", 0, 0, dice.pick((4, 8, 16))))
+        challenge = self.card.challenge
+        for _ in range(dice.between(1, 3)):
+            self.get_response()
+        if challenge and self.card.device.tries > 2:
+            self.surely(case_3("EXTERNAL AUTHENTICATE", 0, 0, self.cryptogram(challenge)))
 
     # -------------------------------------------------------------------------------------------------- credentials
 
@@ -293,7 +381,7 @@ class Generator:
     def interrupt(self):
         """Something between a challenge and its use: some of these keep the challenge, most drop it."""
         dice = self.dice
-        kind = dice.below(12)
+        kind = dice.below(14)
         if kind == 0:
             self.put(b"RESET")
         elif kind == 1:
@@ -313,6 +401,9 @@ class Generator:
             self.send(case_2("GET CHALLENGE", 0, 1, 8))
         elif kind in (9, 10):
             self.noise()
+        elif kind in (11, 12):
+            # Mode 1 keeps the challenge, mode 0 drops it.
+            self.get_response()
         else:
             self.use_file()
 
@@ -889,8 +980,8 @@ class Generator:
     def refused_issue(self):
         """A line that parses and that the card refuses with 5."""
         dice = self.dice
-        fields = [dice.bytes(16), 3, self.new_pin(), 3, self.new_pin(), 3]
-        kind = dice.below(5)
+        fields = [dice.bytes(16), 3, self.new_pin(), 3, self.new_pin(), 3, dice.below(2)]
+        kind = dice.below(6)
         place = dice.pick((2, 4))
         if kind == 0:
             fields[0] = dice.bytes(dice.pick((0, 1, 15, 17, 32, 299, 300)))
@@ -898,6 +989,8 @@ class Generator:
             fields[dice.pick((1, 3, 5))] = dice.pick((0, 129, 255, 256, 257, 384, 65535))
         elif kind == 3:
             fields[place] = dice.digits(dice.pick((0, 1, 5, 5, 17, 17, 22, 100)))
+        elif kind == 4:
+            fields[6] = dice.pick((2, 2, 3, 255, 256, 257, 65535))
         else:
             bad = bytearray(fields[place])
             bad[dice.below(len(bad))] = dice.pick((0x00, 0x0D, 0x20, 0x2F, 0x3A, 0x41, 0x80, 0xB5, 0xFF))
@@ -906,15 +999,15 @@ class Generator:
 
     @staticmethod
     def issue_line(fields):
-        key, key_limit, admin, admin_limit, user, user_limit = fields
-        return b"ISSUE\t%s\t%d\t%s\t%d\t%s\t%d" % (hex_of(key), key_limit, admin, admin_limit, user, user_limit)
+        key, key_limit, admin, admin_limit, user, user_limit, mode = fields
+        return b"ISSUE\t%s\t%d\t%s\t%d\t%s\t%d\t%d" % (hex_of(key), key_limit, admin, admin_limit, user, user_limit, mode)
 
     def bad_line(self):
         """A line of outcome 9, or one of its good neighbours at an edge of the grammar."""
         dice = self.dice
         random = hex_of(dice.bytes(16))
         good = dice.pick((b"CMD\t00200001\t" + random, b"CMD\t0084000008\t" + random, b"RESET",
-                          b"ISSUE\t%s\t3\t123456\t3\t654321\t3" % random))
+                          b"ISSUE\t%s\t3\t123456\t3\t654321\t3\t%d" % (random, dice.below(2))))
         # The edges of length have a wider share: each is met by one length only.
         kind = dice.pick((0, 1, 2, 3, 4, 5, 6, 7, 8, 9, 10, 11, 12, 13, 14, 15, 11, 11, 12))
         if kind == 0:
@@ -936,21 +1029,23 @@ class Generator:
         if kind == 7:
             return dice.pick((b"CMD\t00200001", b"CMD", b"CMD\t00200001\t%s\t%s" % (random, random), b"RESET\t",
                               b"ISSUE\t%s\t3\t123456\t3\t654321" % random, b"ISSUE",
-                              b"ISSUE\t%s\t3\t123456\t3\t654321\t3\t" % random))
+                              b"ISSUE\t%s\t3\t123456\t3\t654321\t3" % random,
+                              b"ISSUE\t%s\t3\t123456\t3\t654321\t3\t" % random,
+                              b"ISSUE\t%s\t3\t123456\t3\t654321\t3\t0\t0" % random))
         if kind == 8:
             return dice.pick((b"RESET ", b" RESET", b"Reset", b"RESE", b"RESETS", b"CMDS\t00200001\t" + random,
                               b"CM\t00200001\t" + random, b"#", b"ISSUES", b"\x00", b"\xff\xfe", b"\r", b"-", b"\t\t"))
         if kind in (9, 10):
-            # A limit that is no number of the grammar; 0 and 65535 are numbers, and refused with 5.
-            limits = [b"3", b"3", b"3"]
-            limits[dice.below(3)] = dice.pick((b"", b"00", b"01", b"003", b"65536", b"65536", b"65536", b"99999", b"100000",
+            # A limit or mode that is no number of the grammar; a limit of 0 and 65535 are numbers, and refused with 5.
+            limits = [b"3", b"3", b"3", b"1"]
+            limits[dice.below(4)] = dice.pick((b"", b"00", b"01", b"003", b"65536", b"65536", b"65536", b"99999", b"100000",
                                                b"+3", b"-1", b"3 ", b" 3", b"3.0", b"0x3", b"A", b"0", b"65535", b"129",
                                                b"4294967299", b"18446744073709551619"))
-            return b"ISSUE\t%s\t%s\t123456\t%s\t654321\t%s" % (random, *limits)
+            return b"ISSUE\t%s\t%s\t123456\t%s\t654321\t%s\t%s" % (random, *limits)
         if kind == 11:
             # Lines of 1,024 and 1,025 bytes that parse but for their length.
             start = b"ISSUE\t" + random + b"\t3\t"
-            end = b"\t3\t654321\t3"
+            end = b"\t3\t654321\t3\t0"
             length = dice.pick((1023, 1024, 1024, 1025, 1025, 1026, 2048, 5000))
             return start + dice.digits(length - len(start) - len(end)) + end
         if kind == 12:
@@ -958,21 +1053,23 @@ class Generator:
             many = dice.pick((299, 300, 300, 301, 301, 302))
             return dice.pick((b"CMD\t%s\t%s" % (hex_of(dice.bytes(many)), random),
                               b"CMD\t00200001\t%s" % hex_of(dice.bytes(many)),
-                              b"ISSUE\t%s\t3\t123456\t3\t654321\t3" % hex_of(dice.bytes(many))))
+                              b"ISSUE\t%s\t3\t123456\t3\t654321\t3\t0" % hex_of(dice.bytes(many))))
         if kind == 13:
             # The longest lines of the grammar's CMD, and longer ones: 300 bytes of command and some of random.
             return b"CMD\t%s\t%s" % (hex_of(dice.bytes(300)), hex_of(dice.bytes(dice.pick((208, 209, 210, 300)))))
         if kind == 14:
             return dice.bytes(dice.between(1, 40)).replace(b"\n", b"\t")
         # Fields in another order, and keys or PINs that are lower-case hex or empty.
-        return dice.pick((b"ISSUE\t%s\t3\t123456\t3\t654321\t3" % random.lower(), b"ISSUE\t\t3\t\t3\t\t3",
-                          b"ISSUE\t3\t%s\t123456\t3\t654321\t3" % random, b"ISSUE\t%s\t123456\t3\t654321\t3\t3" % random,
+        return dice.pick((b"ISSUE\t%s\t3\t123456\t3\t654321\t3\t0" % random.lower(), b"ISSUE\t\t3\t\t3\t\t3\t0",
+                          b"ISSUE\t3\t%s\t123456\t3\t654321\t3\t0" % random,
+                          b"ISSUE\t%s\t123456\t3\t654321\t3\t3\t0" % random,
+                          b"ISSUE\t%s\t3\t123456\t3\t654321\t0\t3" % random,
                           b"CMD\t%s\t00200001" % random))
 
     # ---------------------------------------------------------------------------------------------------------- cards
 
     def issue_good(self):
-        """A new card. Its limits set how fragile it is, and so how many lines it is worth; gives that number."""
+        """A new card of either mode. Its limits set how fragile it is, and so how many lines it is worth; gives that number."""
         dice = self.dice
         style = dice.weighted((("deep", 5), ("mixed", 3), ("fragile", 4)))
         if style == "deep":
@@ -989,13 +1086,14 @@ class Generator:
         user = admin if dice.chance(0.05) else self.new_pin()
         if self.card is not None:
             self.old_pins = [self.card.admin.value, self.card.user.value]
-        self.put(self.issue_line([key, limits[0], admin, limits[1], user, limits[2]]))
+        self.patience = dice.pick((0.3, 0.8, 0.8, 0.97))
+        self.put(self.issue_line([key, limits[0], admin, limits[1], user, limits[2], dice.below(2)]))
         return lines
 
     def before_a_card(self):
         """Lines before the first good ISSUE."""
         dice = self.dice
-        for _ in range(dice.pick((0, 1, 2, 4))):
+        for _ in range(dice.pick((0, 1, 2, 4, 6))):
             self.put(dice.pick((b"RESET", b"CMD\t00200001\t" + hex_of(dice.bytes(16)), b"CMD\t\t", b"",
                                 self.refused_issue())))
 
@@ -1017,7 +1115,8 @@ class Generator:
             dice.weighted((
                 (self.use_file, 420), (self.show_pin, 130), (self.log_in_device, 55), (self.create, 60),
                 (self.select, 55), (self.change_pin, 28), (self.reload_pin, 26), (self.noise, 26),
-                (self.ask_challenge, 14), (self.fill_cyclic, 11), (self.fill_variable, 14), (self.keep_notes, 3),
+                (self.ask_challenge, 14), (self.fetch_nothing, 8), (self.fill_cyclic, 11), (self.fill_variable, 14),
+                (self.keep_notes, 3),
                 (self.pass_255, 1), (self.use_up_tries, 14), (self.read_all, 2), (self.fill_directory, 2),
                 (self.other_line, 72), (self.restart, 14), (self.use_current, 20)))()
         self.read_all()
@@ -1079,6 +1178,7 @@ EXPECTED = {
     "CREATE FILE": ("9000 28", "9000 2A", "9000 2C", "9000 2E", "6A86", "6700", "6982", "6A80", "6986", "6A84 files",
                     "6A84 room"),
     "GET CHALLENGE": ("9000", "6A86", "6700"),
+    "GET RESPONSE": ("9000", "9000 Le 00", "9000 Le 00 of 256", "61xx", "6D00", "6A86", "6700", "6985", "6Cxx"),
     "(broken frame)": ("6700",),
     "(other class)": ("6E00",),
     "(not in the list)": ("6D00",),
@@ -1092,6 +1192,9 @@ class Report:
         self.outcomes = Counter()
         self.pairs = defaultdict(Counter)
         self.full_before = {}
+        self.waited_before = 0
+        # How often so many bytes were made to wait.
+        self.waited = Counter()
         # How often Le 00 read a binary file, by the bytes from the offset to the end.
         self.left = Counter()
         # How often a file's rights byte was asked, by the byte and the rights that were held.
@@ -1104,11 +1207,16 @@ class Report:
         outcome, data, sw = answer
         self.outcomes[line.split(b"\t")[0].decode("latin-1") if outcome != 9 else "(line)", outcome] += 1
         if sw is not None:
-            name, label = self.labels(program, script.bytes_of(line.split(b"\t")[1]), sw)
+            sent = script.bytes_of(line.split(b"\t")[1])
+            data, sw = as_in_mode_0(program.card, sent, data, sw)
+            name, label = self.labels(program, sent, sw)
             self.pairs[name][label] += 1
             if name == "READ RECORD" and label.startswith("9000 2C"):
                 self.lengths[len(data)] += 1
         if program.card is not None:
+            if sw is not None and name != "GET RESPONSE" and program.card.waiting:
+                self.waited[len(program.card.waiting)] += 1
+            self.waited_before = len(program.card.waiting)
             self.full_before = {file: file.records == file.count for file in program.card.files if file.kind == cards.CYCLIC}
 
     def labels(self, program, sent, sw):
@@ -1124,6 +1232,8 @@ class Report:
         file = program.card.current
         if name in FILE_COMMANDS:
             return name, self.file_label(program.card, name, frame, sw)
+        elif name == "GET RESPONSE":
+            return name, self.response_label(frame, sw)
         elif name == "VERIFY" and frame.case == 1:
             name = "VERIFY query"
         elif name == "CREATE FILE" and sw == 0x9000:
@@ -1131,6 +1241,15 @@ class Report:
         elif name == "CREATE FILE" and sw == 0x6A84:
             label += " files" if len(program.card.files) == cards.MOST_FILES else " room"
         return name, label
+
+    def response_label(self, frame, sw):
+        """The SW, and how all that wait were asked for."""
+        if sw >> 8 in (0x61, 0x6C):
+            return "%02Xxx" % (sw >> 8)
+        label = "%04X" % sw
+        if sw == 0x9000 and frame.le == 256:
+            return label + (" Le 00 of 256" if self.waited_before == 256 else " Le 00")
+        return label
 
     def file_label(self, card, name, frame, sw):
         """The SW, where a file was found its type, and what parts one cause of the SW from another."""
@@ -1187,6 +1306,8 @@ class Report:
             len(self.asked), 8 * len(GOOD_RIGHTS), min(self.asked.values(), default=0)))
         print("2C records read: %d lengths, %s; the highest number is %d" % (
             len(self.lengths), ", ".join("%d of %d" % (self.lengths[length], length) for length in (1, 177, 178)), self.highest))
+        print("replies that waited: %d; %s" % (
+            sum(self.waited.values()), ", ".join("%d of %d" % (self.waited[length], length) for length in (1, 2, 254, 255, 256))))
         for entry in missing:
             print("MISSING: " + entry)
         return not missing

@@ -1,4 +1,4 @@
-"""The script program of document 01, over the model of the card: python3 tests/model/script.py < FILE"""
+"""The script program of document 01, with the mode of R-6, over the model of the card: python3 tests/model/script.py < FILE"""
 
 import re
 import sys
@@ -26,7 +26,7 @@ def bytes_of(field):
 
 
 def number_of(field):
-    """The number that a limit field stands for, or None where it is not one."""
+    """The number that a limit or mode field stands for, or None where it is not one."""
     if NUMBER.fullmatch(field) is None:
         return None
     number = int(field)
@@ -48,7 +48,7 @@ class Program:
         fields = line.split(b"\t")
         if fields[0] == b"CMD" and len(fields) == 3:
             return self.command(fields)
-        if fields[0] == b"ISSUE" and len(fields) == 7:
+        if fields[0] == b"ISSUE" and len(fields) == 8:
             return self.issue(fields)
         if fields[0] == b"RESET" and len(fields) == 1:
             return self.reset()
@@ -65,10 +65,11 @@ class Program:
 
     def issue(self, fields):
         key = bytes_of(fields[1])
-        key_limit, admin_limit, user_limit = number_of(fields[2]), number_of(fields[4]), number_of(fields[6])
-        if key is None or key_limit is None or admin_limit is None or user_limit is None:
+        numbers = [number_of(fields[place]) for place in (2, 4, 6, 7)]
+        if key is None or None in numbers:
             return NOT_A_RECORD
-        outcome, issued = cards.issue(self.area, key, key_limit, fields[3], admin_limit, fields[5], user_limit)
+        key_limit, admin_limit, user_limit, mode = numbers
+        outcome, issued = cards.issue(self.area, key, key_limit, fields[3], admin_limit, fields[5], user_limit, mode)
         # A refused ISSUE keeps the earlier card.
         if outcome == 0:
             self.card = issued

@@ -1,4 +1,6 @@
-"""Checks the model itself against document 01 and requests R-1, R-2, R-4 and R-5 of document 02: python3 tests/model/selftest.py
+"""Checks the model itself against document 01 and requests R-1, R-2, R-4, R-5 and R-6 of document 02.
+
+    python3 tests/model/selftest.py
 
 The expected answers are worked out from the papers.
 """
@@ -30,9 +32,9 @@ def check(name, actual, expected):
 class Session:
     """A script that is written and answered line by line. An answer is "DATA SW", "SW", or the outcome alone."""
 
-    def __init__(self, key=KEY, key_limit=128, admin="87654321", admin_limit=5, user="123456", user_limit=3):
+    def __init__(self, key=KEY, key_limit=128, admin="87654321", admin_limit=5, user="123456", user_limit=3, mode=0):
         self.program = script.Program()
-        self.line("ISSUE\t%s\t%d\t%s\t%d\t%s\t%d" % (key, key_limit, admin, admin_limit, user, user_limit))
+        self.line("ISSUE\t%s\t%d\t%s\t%d\t%s\t%d\t%d" % (key, key_limit, admin, admin_limit, user, user_limit, mode))
 
     def line(self, text):
         outcome, data, sw = self.program.answer(text.encode("latin-1"))
@@ -50,6 +52,17 @@ class Session:
         """The device right, by the vector of FIPS 197 C.1."""
         self.send("0084000010")
         return self.send("0082000010" + CIPHERTEXT)
+
+    def fetch(self, le=0):
+        """What a command left waiting, joined, by GET RESPONSE with this Le or the count where that is less; then the last SW."""
+        joined = ""
+        while True:
+            waits = len(self.program.card.waiting)
+            *part, sw = self.send("00C00000%02X" % (min(le, waits) & 0xFF)).split()
+            joined += "".join(part)
+            if sw[:2] != "61":
+                return joined + " " + sw
+            check("61 and what remains", int(sw[2:], 16), len(self.program.card.waiting) & 0xFF)
 
     def admin(self):
         return self.send("0020000008 3837363534333231")
@@ -88,7 +101,7 @@ def test_cipher():
 
 def test_example():
     text = """\
-ISSUE	000102030405060708090A0B0C0D0E0F	128	87654321	5	123456	3
+ISSUE	000102030405060708090A0B0C0D0E0F	128	87654321	5	123456	3	0
 CMD	0020000106313131313131	R
 CMD	00200001	R
 CMD	0020000106313233343536	R
@@ -193,8 +206,8 @@ def test_errors_that_look_right():
 
 
 def test_calls():
-    def state():
-        outcome, made = cards.issue(area, bytes(16), 3, b"123456", 3, b"123456", 3)
+    def state(mode=0):
+        outcome, made = cards.issue(area, bytes(16), 3, b"123456", 3, b"123456", 3, mode)
         assert outcome == 0
         return made
 
@@ -229,20 +242,28 @@ def test_calls():
     made = state()
     check("served", cards.command(made, area, bytes.fromhex("0084000004"), bytes.fromhex(RANDOM), reply), (0, 6))
     check("reply bytes past data and SW stay", reply.hex().upper(), "001122339000" + "55" * 294)
+    reply = bytearray(b"\x55" * 300)
+    made = state(mode=1)
+    check("served in mode 1", cards.command(made, area, bytes.fromhex("0084000004"), bytes.fromhex(RANDOM), reply), (0, 2))
+    check("data that wait are not in the reply", reply.hex().upper(), "6104" + "55" * 298)
 
     marked = bytearray(b"\xAA" * 4096)
-    good = (bytes(16), 1, b"123456", 128, b"0123456789012345", 1)
+    good = (bytes(16), 1, b"123456", 128, b"0123456789012345", 1, 0)
     check("issue", cards.issue(marked, *good)[0], 0)
     check("issue clears the area", bytes(marked), bytes(4096))
     for place, value in ((0, bytes(15)), (0, bytes(17)), (1, 0), (1, 129), (3, 0), (3, 129), (5, 0), (5, 129),
                          (2, b"12345"), (2, b"12345678901234567"), (2, b"12345/"), (2, b"12345:"),
-                         (4, b"12345"), (4, b"12345678901234567"), (4, b"/23456"), (4, b":23456"), (4, b"")):
+                         (4, b"12345"), (4, b"12345678901234567"), (4, b"/23456"), (4, b":23456"), (4, b""),
+                         (6, 2), (6, 3), (6, 128), (6, 255), (6, 256), (6, 257), (6, 65535)):
         marked = bytearray(b"\xAA" * 4096)
         arguments = list(good)
         arguments[place] = value
         outcome, blank = cards.issue(marked, *arguments)
         check("issue with %r" % (value,), (outcome, snapshot(blank), marked == b"\xAA" * 4096),
               (5, snapshot(cards.Card()), True))
+    for mode in (0, 1):
+        outcome, made = cards.issue(bytearray(4096), *good[:6], mode)
+        check("issue with mode %d" % mode, (outcome, made.mode, made.waiting), (0, mode, b""))
     check("issue with an area of 4,095", cards.issue(bytearray(4095), *good)[0], 2)
     check("issue checks the area first", cards.issue(bytearray(4095), b"", *good[1:])[0], 2)
 
@@ -270,7 +291,9 @@ def test_calls():
             (variable, "used", -1), (variable, "used", 1), (variable, "used", 2), (variable, "used", 3), (variable, "used", 5),
             (variable, "used", 9), (variable, "size", 1), (variable, "size", 3), (variable, "size", 4097),
             (variable, "start", 21), (variable, "read", 0x02), (variable, "fid", 0x0001),
-            (held, "current", stranger), (held, "challenge", bytes(5)), (held, "files", [binary] * 17)):
+            (held, "current", stranger), (held, "challenge", bytes(5)), (held, "files", [binary] * 17),
+            (held, "mode", 2), (held, "mode", 3), (held, "mode", 255), (held, "waiting", b"\x00"), (held, "waiting", bytes(256)),
+            (held, "waiting", bytes(257))):
         kept = getattr(owner, field)
         setattr(owner, field, value)
         check("unsound with %s %r" % (field, value), cards.is_sound(held, area), False)
@@ -281,6 +304,15 @@ def test_calls():
         setattr(owner, field, value)
         check("sound with %s %02X" % (field, value), cards.is_sound(held, area), True)
         setattr(owner, field, kept)
+    held.mode = 1
+    for length, expected in ((0, True), (1, True), (255, True), (256, True), (257, False), (512, False)):
+        held.waiting = b"\x5A" * length
+        check("%d bytes waiting in mode 1" % length, cards.is_sound(held, area), expected)
+    held.waiting = b"\x5A"
+    for mode in (0, 2, 255):
+        held.mode = mode
+        check("a byte waiting in mode %d" % mode, cards.is_sound(held, area), False)
+    held.mode, held.waiting = 0, b""
     cyclic.records, cyclic.newest = 1, 1
     check("newest may be any place, also when not full", cards.is_sound(held, area), True)
 
@@ -528,7 +560,8 @@ def snapshot(made):
         return tuple(getattr(owner, name) for name in owner.__slots__)
 
     return (fields(made.device), fields(made.admin), fields(made.user), tuple(fields(file) for file in made.files),
-            made.files.index(made.current) if made.current in made.files else made.current, made.challenge)
+            made.files.index(made.current) if made.current in made.files else made.current, made.challenge, made.mode,
+            made.waiting)
 
 
 # A card of all four file types, its lines worked out by hand from the commands of lined_session.
@@ -536,7 +569,7 @@ LINED = """\
 000102030405060708090A0B0C0D0E0F	128	128
 3837363534333231	5	5
 313233343536	3	2
-1	0	0	0104	0011223344556677
+1	0	0	0104	0011223344556677	0	-
 0101	2800210001	0	0
 A100000000000000000000000000000000000000000000000000000000000000
 A2
@@ -586,6 +619,11 @@ def with_lines(number, *new):
     return text_of_lines(lines)
 
 
+def with_waiting(mode, waiting):
+    """The lines above with this mode and these bytes waiting."""
+    return with_lines(4, "1\t0\t0\t0104\t0011223344556677\t%s\t%s" % (mode, waiting))
+
+
 def test_text_example():
     session = lined_session()
     card, area = session.program.card, session.program.area
@@ -605,7 +643,7 @@ def test_text_example():
 000102030405060708090A0B0C0D0E0F	128	128
 3837363534333231	5	5
 313233343536	3	3
-0	0	0	-	-
+0	0	0	-	-	0	-
 """)
     # The lines say all that a call can tell: each state here is another one, and so is its text.
     session = Session(user="1234567890123456", user_limit=1)
@@ -615,11 +653,20 @@ def test_text_example():
         seen.append(texts.to_text(session.program.card, session.program.area).decode().splitlines()[1:])
     user = "31323334353637383930313233343536"
     check("as commands change it", seen, [
-        ["3837363534333231\t5\t5", user + "\t1\t1", "0\t0\t0\t-\t00112233"],
-        ["3837363534333231\t5\t5", user + "\t1\t1", "0\t0\t0\t-\t" + RANDOM],
-        ["3837363534333231\t5\t5", user + "\t1\t1", "0\t1\t0\t-\t-"],
-        ["3837363534333231\t5\t5", user + "\t1\t0", "0\t1\t0\t-\t-"],
-        ["393837363534\t5\t5", user + "\t1\t0", "0\t1\t0\t-\t-"]])
+        ["3837363534333231\t5\t5", user + "\t1\t1", "0\t0\t0\t-\t00112233\t0\t-"],
+        ["3837363534333231\t5\t5", user + "\t1\t1", "0\t0\t0\t-\t" + RANDOM + "\t0\t-"],
+        ["3837363534333231\t5\t5", user + "\t1\t1", "0\t1\t0\t-\t-\t0\t-"],
+        ["3837363534333231\t5\t5", user + "\t1\t0", "0\t1\t0\t-\t-\t0\t-"],
+        ["393837363534\t5\t5", user + "\t1\t0", "0\t1\t0\t-\t-\t0\t-"]])
+    session = Session(mode=1)
+    seen = []
+    for sent in ("00A40000023F00", "0084000004", "00C0000001", "00C0000104", "00C0000002", "00C0000000", "0084000008", "00200001"):
+        session.send(sent)
+        seen.append(texts.to_text(session.program.card, session.program.area).decode().splitlines()[3])
+    check("as the data wait and are fetched", seen, [
+        "0\t0\t0\t-\t%s\t1\t%s" % fields for fields in (
+            ("-", "-"), ("00112233", "00112233"), ("00112233", "112233"), ("00112233", "112233"), ("00112233", "33"),
+            ("00112233", "-"), ("0011223344556677", "0011223344556677"), ("-", "-"))])
 
 
 def test_text_fields():
@@ -653,6 +700,9 @@ def test_text_fields():
             (session, 4, ("-", "00112233", "AABBCCDD", "FF" * 8, "00" * 4, "00" * 16),
              ("", "00", "001122", "0011223344", "00" * 7, "00" * 9, "00" * 12, "00" * 15, "00" * 17, "aabbccdd", "AABBCCDd",
               "0011223", "0", "--", "-0", "00112233 ", "0011223G")),
+            (session, 5, ("0", "1"), ("2", "", "-", "00", "01", "10", "+1", " 1", "1 ", "1\r", "A", "256", "257")),
+            # In mode 0 nothing waits.
+            (session, 6, ("-",), ("", "00", "AA", "0", "--", " -", "- ", "aa", "FF" * 256, "FF" * 257)),
             # SFIs 2, 3 and 4 are used by the other files.
             (binary, 0, ("0101", "0105", "011E", "FF41", "0001", "3F01"),
              ("0102", "0202", "0222", "0144", "0100", "0120", "011F", "013F", "0000", "3F00", "101", "00101", "01", "", "-", "01e1",
@@ -701,6 +751,26 @@ def test_text_fields():
             ("an empty cyclic file", with_lines(10, "0103\t2E03020000\t0\t0"), True),
             ("an empty cyclic file with a newest place", with_lines(10, "0103\t2E03020000\t0\t1"), False),
             ("a cyclic file that is not full, its newest at the last place", with_lines(10, "0103\t2E03020000\t1\t2"), True),
+            ("nothing waits in mode 1", with_waiting("1", "-"), True),
+            ("a byte waits", with_waiting("1", "00"), True),
+            ("a byte waits, not in lower case", with_waiting("1", "aa"), False),
+            ("a byte waits, not by a digit", with_waiting("1", "0"), False),
+            ("a byte and a half wait", with_waiting("1", "000"), False),
+            ("255 bytes wait", with_waiting("1", "A5" * 255), True),
+            ("256 bytes wait", with_waiting("1", "A5" * 256), True),
+            ("257 bytes wait", with_waiting("1", "A5" * 257), False),
+            ("512 bytes wait", with_waiting("1", "A5" * 512), False),
+            ("an empty field waits", with_waiting("1", ""), False),
+            ("- and a byte wait", with_waiting("1", "-00"), False),
+            ("a blank waits", with_waiting("1", "A5 "), False),
+            ("no hex waits", with_waiting("1", "A5G5"), False),
+            ("a byte waits in mode 0", with_waiting("0", "A5"), False),
+            ("a byte waits in mode 2", with_waiting("2", "A5"), False),
+            ("a byte waits in mode 01", with_waiting("01", "A5"), False),
+            ("mode and waiting bytes swapped", with_waiting("-", "1"), False),
+            ("no waiting bytes", with_lines(4, "1\t0\t0\t0104\t0011223344556677\t1"), False),
+            ("no mode", with_lines(4, "1\t0\t0\t0104\t0011223344556677"), False),
+            ("a field behind the waiting bytes", with_waiting("1", "A5\t-"), False),
             ("a limit of 1", with_lines(2, "3837363534333231\t1\t1"), True),
             ("a limit of 1 and no tries", with_lines(2, "3837363534333231\t1\t0"), True),
             ("a limit of 128", with_lines(2, "3837363534333231\t128\t128"), True),
@@ -769,7 +839,7 @@ def test_text_lines():
 
 
 def test_text_sizes():
-    start = text_of_lines(LINED.splitlines()[:3]) + "0\t0\t0\t-\t-\n"
+    start = text_of_lines(LINED.splitlines()[:3]) + "0\t0\t0\t-\t-\t0\t-\n"
 
     def files(*sizes):
         """Binary files of so many bytes, their SFIs from 1 on."""
@@ -809,15 +879,17 @@ def test_text_sizes():
         text = start + text_of_lines(["0001\t%s\t%d\t0" % (created, held)] + lines)
         check("a file made by %s, %d held or used" % (created, held), accepts(text), expected)
 
-    # The longest text. Credentials with sixteen bytes and three digits twice: 3 x 41. The session: 44. Sixteen cyclic files with
-    # 24 bytes a line, as held and newest have three digits: 384. All 4,096 bytes: 8,192 digits, in 143 lines where the files end
-    # 2 bytes behind a whole line: 15 x 258 + 226 = 4,096, and 15 x 9 + 8 = 143. Together 8,886.
-    longest = text_of_lines(["FF" * 16 + "\t128\t128"] + ["39" * 16 + "\t128\t128"] * 2 + ["1\t1\t1\tFF01\t" + "FF" * 16])
+    # The longest text. Credentials with sixteen bytes and three digits twice: 3 x 41. The session: 46 with the mode, and 513 with
+    # 256 waiting bytes. Sixteen cyclic files with 24 bytes a line, as held and newest have three digits: 384. All 4,096 bytes:
+    # 8,192 digits, in 143 lines where the files end 2 bytes behind a whole line: 15 x 258 + 226 = 4,096, and 15 x 9 + 8 = 143.
+    # Together 9,401.
+    longest = text_of_lines(["FF" * 16 + "\t128\t128"] + ["39" * 16 + "\t128\t128"] * 2
+                            + ["1\t1\t1\tFF01\t" + "FF" * 16 + "\t1\t" + "FF" * 256])
     for number in range(1, 17):
         count = 129 if number < 16 else 113
         longest += text_of_lines(["FF%02X\t2E%02X02C1C1\t%d\t%d" % (number, count, count, count - 1)]
                                  + ["FF" * 32] * (count * 2 // 32) + ["FFFF"])
-    check("the longest text", (len(longest), accepts(longest)), (8886, True))
+    check("the longest text", (len(longest), accepts(longest)), (9401, True))
 
 
 def test_text_calls():
@@ -869,10 +941,11 @@ def test_framing():
         check("command %s" % sent, session.send(sent), expected)
     check("all the classes", [session.send("%02X200001" % cla) for cla in range(256)],
           ["63C3"] + ["6E00"] * 127 + ["6D00"] + ["6E00"] * 127)
+    session = Session(mode=1)
     served = [(cla, ins) for cla in (0x00, 0x80) for ins in range(256)
               if session.send("%02X%02XFFFF" % (cla, ins)) != "6D00"]
     check("the list", sorted(served), sorted(cards.ROWS))
-    check("twelve rows", len(cards.LIST), 12)
+    check("thirteen rows", len(cards.LIST), 13)
 
 
 def test_files():
@@ -1016,6 +1089,122 @@ def test_read_to_end():
     check("GET CHALLENGE, Le 00", session.send("0084000000"), "6700")
 
 
+def waiting_session(length):
+    """A card of mode 1 with a free file of so many bytes, SFI 1, and other numbers in each; none is current and nothing waits."""
+    session = device_session(mode=1)
+    session.send("80E01001 05 28%04X0000" % length)
+    content = "".join("%02X" % (place * 5 % 251) for place in range(length))
+    for place in range(0, length, 255):
+        part = content[2 * place:2 * (place + 255)]
+        session.send("00D6%04X%02X%s" % (place, len(part) // 2, part))
+    session.send("00A40000023F00")
+    return session, content
+
+
+def test_response():
+    # GET RESPONSE by itself, each check before the next.
+    session, content = waiting_session(5)
+    for sent, expected in (
+            ("00C0000001", "6985"), ("00C0000000", "6985"), ("00C00000", "6700"), ("00C0000001AA", "6700"),
+            ("00C0000001AA00", "6700"), ("00C00001", "6A86"), ("00C0010000", "6A86"), ("00C0008000", "6A86"),
+            ("00C0FFFF01AA", "6A86"), ("80C0000000", "6D00"), ("01C0000000", "6E00"), ("00C000", "6700"),
+            ("00C000000001", "6700"), ("00C1000000", "6D00"),
+            ("00B0810000", "6105"), ("00C0000006", "6C05"), ("00C00000FF", "6C05"), ("00C0000106", "6A86"), ("00C00100", "6A86"),
+            ("00C00000", "6700"), ("00C0000001AA", "6700"), ("00C0000001AA00", "6700"), ("00C0000001", content[:2] + " 6104"),
+            ("00C0000005", "6C04"), ("00C0000002", content[2:6] + " 6102"), ("00C0000003", "6C02"),
+            ("00C0000002", content[6:] + " 9000"), ("00C0000002", "6985"), ("00C0000000", "6985")):
+        check("GET RESPONSE %s" % sent, session.send(sent), expected)
+
+    # 61 and the length, 00 for 256; Le 00 gives all, and any other cut the same bytes.
+    for length in (1, 2, 3, 16, 254, 255, 256):
+        session, content = waiting_session(length)
+        for le in sorted({1, 2, 3, 7, 100, 127, 128, max(1, length - 1), min(length, 255), 255, 256}):
+            check("%d bytes wait" % length, session.send("00B0810000"), "61%02X" % (length & 0xFF))
+            check("%d bytes by %d" % (length, le), session.fetch(le), content + " 9000")
+        session.send("00B0810000")
+        if length < 255:
+            check("one more than %d" % length, session.send("00C00000%02X" % (length + 1)), "6C%02X" % length)
+        check("then all of %d" % length, session.send("00C0000000"), content + " 9000")
+    session, content = waiting_session(256)
+    session.send("00B0810000")
+    check("255 of 256", session.send("00C00000FF"), content[:510] + " 6101")
+    check("two more", session.send("00C0000002"), "6C01")
+    check("the last", session.send("00C0000001"), content[510:] + " 9000")
+
+    # Only data wait: what has none is answered as in mode 0.
+    session = Session(mode=1)
+    for sent, expected in (("00200001", "63C3"), ("0020000106 313233343536", "9000"), ("00A40000023F00", "9000"),
+                           ("00B2010400", "6A82"), ("0024010106 313233343536", "9000"), ("0084000005", "6700"), ("00C0000000", "6985")):
+        check("no data, %s" % sent, session.send(sent), expected)
+
+    # 61xx counts as 9000: the challenge stands and the file is current.
+    for length in (4, 8, 16):
+        session = Session(mode=1)
+        shown = cards.encrypt(bytes.fromhex(KEY), bytes.fromhex(RANDOM)[:length] + bytes(16 - length)).hex().upper()
+        check("a challenge of %d waits" % length, session.send("00840000%02X" % length), "61%02X" % length)
+        check("it is fetched", session.fetch(3), RANDOM[:2 * length] + " 9000")
+        check("and used", session.send("0082000010" + shown), "9000")
+    session = Session(mode=1)
+    session.send("0084000010")
+    check("a challenge need not be fetched", session.send("0082000010" + CIPHERTEXT), "9000")
+    check("and waits no longer", session.send("00C0000000"), "6985")
+    session, content = waiting_session(5)
+    session.send("80E02002 05 2E02030000")
+    session.send("00E2000003A1A2A3")
+    session.send("00A40000023F00")
+    check("a record waits", session.send("00B2011400"), "6103")
+    check("its file is current", session.send("00B2010403"), "6103")
+    check("it is fetched", session.fetch(), "A1A2A3 9000")
+    check("a part of a binary file waits", session.send("00B0810203"), "6103")
+    check("its file is current", session.send("00B0000001"), "6101")
+    check("only the last is fetched", session.fetch(), content[:2] + " 9000")
+
+    # What keeps the waiting bytes and the challenge, and what discards both.
+    for sent, random, expected in (
+            ("00C0000104", RANDOM, "6A86"), ("00C00000", RANDOM, "6700"), ("00C0000001AA", RANDOM, "6700"),
+            ("00C0000011", RANDOM, "6C10"), ("00200001", RANDOM[2:], "3"), ("00C0000000", "", "3"), ("", RANDOM + "00", "3")):
+        session = Session(mode=1)
+        session.send("0084000010")
+        check("kept by %s" % sent, session.send(sent, random), expected)
+        check("still there after %s" % sent, session.send("00C0000000"), RANDOM + " 9000")
+        check("nothing waits, and the challenge stands", session.send("00C0000000"), "6985")
+        check("the challenge after %s" % sent, session.send("0082000010" + CIPHERTEXT), "9000")
+    session = Session(mode=1)
+    session.send("0084000010")
+    for line in ("", "RESET\t", "ISSUE\t\t3\t\t3\t\t3\t1", "ISSUE\t%s\t3\t123456\t3\t123456\t3\t2" % KEY):
+        session.line(line)
+    check("lines that are not served keep it", session.fetch(), RANDOM + " 9000")
+    for sent in ("", "00", "00C000", "00C000000001", "00C0000002AA", "01C0000000", "80C0000000", "80C0000104", "00C2000000",
+                 "00200001", "00A40000023F00", "00A40000021234", "0084000005", "0084000104", "00B0000001", "0020000106 313233343536",
+                 "0082000110" + CIPHERTEXT, "80E00000"):
+        session = Session(mode=1)
+        session.send("0084000010")
+        session.send(sent)
+        check("discarded by %s" % (sent or "an empty command"), session.send("00C0000000"), "6985")
+        check("and the challenge dropped", session.send("0082000010" + CIPHERTEXT), "6984")
+    session = Session(mode=1)
+    session.send("0084000010")
+    session.send("00C0000005")
+    check("a reset", session.reset(), "0")
+    check("discards what waits", session.send("00C0000000"), "6985")
+    check("drops the challenge", session.send("0082000010" + CIPHERTEXT), "6984")
+    check("and keeps the mode", session.send("0084000004"), "6104")
+    session.send("0084000010")
+    check("the next data take their place", session.send("0084000008", RANDOM[::-1]), "6108")
+    check("and those before are gone", session.fetch(), RANDOM[::-1][:16] + " 9000")
+    session.send("0084000010")
+    session.line("ISSUE\t%s\t3\t123456\t3\t654321\t3\t1" % KEY)
+    check("nothing waits on a new card", session.send("00C0000000"), "6985")
+
+    # Mode 0 has no GET RESPONSE, and drops the challenge at one.
+    for sent in ("00C0000000", "00C0000010", "00C0000100", "00C00000", "00C0000001AA"):
+        session = Session()
+        check("mode 0, the data at once", session.send("0084000010"), RANDOM + " 9000")
+        check("mode 0, %s" % sent, session.send(sent), "6D00")
+        check("mode 0, no challenge after %s" % sent, session.send("0082000010" + CIPHERTEXT), "6984")
+    check("mode 0, a broken frame", Session().send("00C000"), "6700")
+
+
 # What each good rights byte asks: any one of these sets of rights, held in full, opens the file. All other bytes are bad.
 NOTHING_ASKED, NEVER_OPEN = ("",), ()
 ASKED = {
@@ -1125,7 +1314,7 @@ def test_grammar():
         output = script.run(script.lines_of(b"".join(line + b"\n" for line in lines)))
         return [line.split(b"\t")[1].decode() for line in output.splitlines()[1:]]
 
-    good = b"ISSUE\t%s\t3\t123456\t3\t654321\t3" % KEY.encode()
+    good = b"ISSUE\t%s\t3\t123456\t3\t654321\t3\t0" % KEY.encode()
     check("empty input", script.run(script.lines_of(b"")), script.HEADER)
     check("one newline", script.run(script.lines_of(b"\n")), script.HEADER + b"1\t9\t-\t-\n")
     check("a last line without newline", script.run(script.lines_of(b"\n" + good)),
@@ -1139,6 +1328,11 @@ def test_grammar():
             fields = good.split(b"\t")
             fields[place] = limit.encode()
             check("limit %r" % limit, outcomes(b"\t".join(fields)), [str(expected)])
+    for mode, expected in (("0", 0), ("1", 0), ("2", 5), ("10", 5), ("128", 5), ("256", 5), ("257", 5), ("65535", 5), ("65536", 9),
+                           ("65537", 9), ("00", 9), ("01", 9), ("", 9), ("+1", 9), ("-1", 9), (" 1", 9), ("1 ", 9), ("1\r", 9),
+                           ("-", 9), ("A", 9), ("1\t", 9), ("1\t0", 9)):
+        check("mode %r" % mode, outcomes(good[:-1] + mode.encode()), [str(expected)])
+    check("no mode", outcomes(good[:-2]), ["9"])
     for pin, expected in ((b"", 5), (b"12345", 5), (b"123456", 0), (b"1234567890123456", 0), (b"12345678901234567", 5),
                           (b"12345\r", 5), (b"\xff" * 8, 5), (b"\x00", 5)):
         for place in (3, 5):
@@ -1160,18 +1354,18 @@ def test_grammar():
             (b"CMD\t" + b"00" * 300 + b"\t" + random, 0), (b"CMD\t" + b"00" * 301 + b"\t" + random, 9),
             (b"CMD\t00200001\t" + b"00" * 300, 3), (b"CMD\t00200001\t" + b"00" * 301, 9),
             (b"CMD\t" + b"00" * 300 + b"\t" + b"00" * 209, 3), (b"CMD\t" + b"00" * 300 + b"\t" + b"00" * 210, 9),
-            (b"ISSUE\t\t3\t\t3\t\t3", 5), (good + b"\t", 9), (good[:-2], 9), (b"CMDX\t\t", 9)):
+            (b"ISSUE\t\t3\t\t3\t\t3\t0", 5), (good + b"\t", 9), (good[:-2], 9), (b"CMDX\t\t", 9)):
         check("line %r" % line[:60], outcomes(good, line)[1:], [str(expected)])
     for length, expected in ((1023, "5"), (1024, "5"), (1025, "9"), (1026, "9")):
         line = good.replace(b"654321", b"6" * (length - len(good) + 6))
         check("a line of %d" % length, (len(line), outcomes(line)), (length, [expected]))
         check("a line of %d between others" % length, outcomes(good, line, b"RESET"), ["0", expected, "0"])
     check("a refused ISSUE keeps the earlier card",
-          outcomes(good, b"CMD\t0084000010\t" + random, b"ISSUE\t\t3\t\t3\t\t3", b"", b"CMD\t0082000010%s\t%s" % (
+          outcomes(good, b"CMD\t0084000010\t" + random, b"ISSUE\t\t3\t\t3\t\t3\t0", b"", b"CMD\t0082000010%s\t%s" % (
               CIPHERTEXT.encode(), random), b"CMD\t80E00001052800010000\t" + random), ["0", "0", "5", "9", "0", "0"])
     session = Session()
     session.send("0084000010")
-    session.line("ISSUE\t\t3\t\t3\t\t3")
+    session.line("ISSUE\t\t3\t\t3\t\t3\t0")
     session.line("")
     check("its challenge too", session.send("0082000010" + CIPHERTEXT), "9000")
     session.line(good.decode())
@@ -1258,6 +1452,7 @@ class Beside:
         if sw is None or sw in (0x6A86, 0x6A82, 0x6981, 0x6982, 0x6D00, 0x6E00):
             return
         sent = script.bytes_of(line.split(b"\t")[1])
+        data, sw = generate.as_in_mode_0(program.card, sent, data, sw)
         frame = cards.frame_of(sent)
         if frame is None:
             return
@@ -1334,6 +1529,44 @@ class Contents(Beside):
         return b"", 0x9000
 
 
+class Twin:
+    """A card of mode 0 beside one of mode 1, given all but its GET RESPONSE. Data, SW and state have to be the same."""
+
+    def __init__(self):
+        self.program = None
+        self.parts, self.whole = b"", b""
+        self.fetched = 0
+        self.disagreements = []
+
+    def watch(self, program, line, answer):
+        outcome, data, sw = answer
+        if line.startswith(b"ISSUE") and outcome == 0:
+            self.program = None
+            if program.card.mode == cards.FETCHED:
+                self.program = script.Program()
+                self.program.answer(line[:-1] + b"0")
+            return
+        if self.program is None:
+            return
+        sent = script.bytes_of(line.split(b"\t")[1]) if sw is not None else b""
+        if sent[:2] == b"\x00\xC0" and cards.frame_of(sent) is not None:
+            self.parts += data
+            if sw == 0x9000:
+                self.fetched += 1
+                if self.parts != self.whole:
+                    self.disagreements.append((line, self.parts, self.whole))
+        else:
+            if sw is not None:
+                data, sw = generate.as_in_mode_0(program.card, sent, data, sw)
+                self.parts, self.whole = b"", data
+            expected = self.program.answer(line)
+            if expected != (outcome, data, sw):
+                self.disagreements.append((line, expected, answer))
+        # The last two are mode and waiting bytes.
+        if snapshot(self.program.card)[:-2] != snapshot(program.card)[:-2] or self.program.area != program.area:
+            self.disagreements.append((line, "other states"))
+
+
 class ReadBack:
     """A second card beside the model's, which was written as lines and read. It has to answer as the first does."""
 
@@ -1383,13 +1616,13 @@ def test_generated():
     check("seeds differ", generate.script_of(7, 500) == generate.script_of(8, 500), False)
     check("as many lines as asked for", [len(script.lines_of(generate.script_of(seed, 300))) for seed in range(20)],
           [300] * 20)
+    fetched = 0
     for seed in range(1, 4):
-        history, lists, contents = History(), Lists(), Contents()
+        history, lists, contents, twin = History(), Lists(), Contents(), Twin()
 
         def watch(*seen):
-            history.watch(*seen)
-            lists.watch(*seen)
-            contents.watch(*seen)
+            for watcher in (history, lists, contents, twin):
+                watcher.watch(*seen)
 
         generate.Generator(seed, 4000, watch).write()
         check("rights follow from history, seed %d" % seed, history.disagreements, [])
@@ -1399,13 +1632,16 @@ def test_generated():
         check("binary files are bytes, seed %d" % seed, contents.disagreements[:3], [])
         check("binary files are used often, seed %d" % seed, contents.compared > 100, True)
         check("and read to the end, seed %d" % seed, contents.to_end > 20, True)
+        check("however cut, the data of mode 0, seed %d" % seed, twin.disagreements[:3], [])
+        fetched += twin.fetched
+    check("data are fetched often", fetched > 300, True)
 
 
 def main():
     for test in (test_cipher, test_example, test_edges, test_errors_that_look_right, test_calls, test_variable_soundness,
                  test_variable_space, test_variable_records, test_variable_many, test_text_example, test_text_fields,
                  test_text_lines, test_text_sizes, test_text_calls, test_text_generated, test_framing, test_files, test_read_to_end,
-                 test_rights, test_credentials, test_grammar, test_generated):
+                 test_response, test_rights, test_credentials, test_grammar, test_generated):
         test()
     print("%d passed, %d failed" % (passed, failed))
     return 1 if failed else 0

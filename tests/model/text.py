@@ -1,4 +1,5 @@
-"""Request R-4 of document 02, over the model of the card: a whole card written as lines, and read from them.
+"""Requests R-4 and, for the session line, R-6 of document 02, over the model of the card: a whole card written as lines, and
+read from them.
 
 Written from the papers alone, as the card is. The reader takes the text apart line by line and field by field, and refuses
 where one is not as the papers say. What it has read it then judges as a card. It never writes a text again to see whether it
@@ -16,6 +17,7 @@ HEX = re.compile(rb"(?:[0-9A-F]{2})+")
 # Decimal without leading zeros. No number of a sound card is over 4,096, so one of more digits is refused here at once.
 NUMBER = re.compile(rb"0|[1-9][0-9]{0,3}")
 FLAGS = {b"0": False, b"1": True}
+MODES = {b"0": cards.AT_ONCE, b"1": cards.FETCHED}
 
 
 # ---------------------------------------------------------------------------------------------------------------------
@@ -43,7 +45,8 @@ def session_line(card):
     rights = [number(credential.held) for credential in (card.device, card.admin, card.user)]
     current = NONE if card.current is None else b"%04X" % card.current.fid
     challenge = NONE if card.challenge == cards.NO_CHALLENGE else hex_of(card.challenge)
-    return line(*rights, current, challenge)
+    waiting = NONE if card.waiting == cards.NOTHING_WAITS else hex_of(card.waiting)
+    return line(*rights, current, challenge, number(card.mode), waiting)
 
 
 def created_bytes(file):
@@ -121,6 +124,12 @@ def read_flag(field):
     return FLAGS[field]
 
 
+def read_mode(field):
+    if field not in MODES:
+        raise NotACard
+    return MODES[field]
+
+
 def read_fid(field):
     high, low = read_bytes(field, 2)
     return high << 8 | low
@@ -172,10 +181,13 @@ def read_card(lines):
     """The card of the lines and the data area that goes with it."""
     card = cards.Card()
     card.device, card.admin, card.user = read_credential(lines), read_credential(lines), read_credential(lines)
-    *rights, current, challenge = lines.take(5)
+    *rights, current, challenge, mode, waiting = lines.take(7)
     card.device.held, card.admin.held, card.user.held = [read_flag(right) for right in rights]
     if challenge != NONE:
         card.challenge = read_bytes(challenge)
+    card.mode = read_mode(mode)
+    if waiting != NONE:
+        card.waiting = read_bytes(waiting)
 
     contents = bytearray()
     while lines.left:

@@ -4,7 +4,8 @@
 
 A case is a letter and its fields, each four bytes of length, the lowest first, and so many bytes:
 
-    I  key, limit, admin PIN, limit, user PIN, limit    issue a card; a limit is two bytes, the lowest first
+    I  key, limit, admin PIN, limit, user PIN, limit,   issue a card; limits and mode are two bytes, the lowest first
+       mode
     C  command, random input, outcome, reply            give it a command
     R                                                   reset it
     W  text, card, contents                             write it, read it, and go on with both
@@ -53,7 +54,8 @@ def card_bytes(card):
     return (b"".join([credential_bytes(credential) for credential in credentials])
             + files.ljust(16 * 11, b"\x00") + bytes((len(card.files),))
             + bytes([credential.held for credential in credentials]) + bytes((current,))
-            + card.challenge.ljust(16, b"\x00") + bytes((len(card.challenge),)))
+            + card.challenge.ljust(16, b"\x00") + bytes((len(card.challenge),))
+            + struct.pack(">BH", card.mode, len(card.waiting)) + card.waiting.ljust(cards.MOST_WAITING, b"\x00"))
 
 
 def contents_of(card, area):
@@ -81,9 +83,9 @@ def line_record(line, answer):
     outcome, data, sw = answer
     fields = line.split(b"\t")
     if outcome == 0 and fields[0] == b"ISSUE":
-        key, device_limit, admin, admin_limit, user, user_limit = fields[1:]
-        limits = [struct.pack("<H", int(limit)) for limit in (device_limit, admin_limit, user_limit)]
-        return record(b"I", bytes.fromhex(key.decode()), limits[0], admin, limits[1], user, limits[2])
+        key, device_limit, admin, admin_limit, user, user_limit, mode = fields[1:]
+        numbers = [struct.pack("<H", int(number)) for number in (device_limit, admin_limit, user_limit, mode)]
+        return record(b"I", bytes.fromhex(key.decode()), numbers[0], admin, numbers[1], user, numbers[2], numbers[3])
     if outcome == 0 and fields[0] == b"RESET":
         return record(b"R")
     if fields[0] == b"CMD" and outcome != 9:
@@ -138,7 +140,7 @@ class Draft:
     def copied(self):
         card = cards.Card()
         card.device, card.admin, card.user = [copied_credential(credential) for credential in self.credentials]
-        card.challenge = self.card.challenge
+        card.challenge, card.mode, card.waiting = self.card.challenge, self.card.mode, self.card.waiting
         files = [(copied_file(file), contents) for file, contents in self.files]
         if self.card.current is not None:
             card.current = next(new for (new, _), (old, _) in zip(files, self.files) if old is self.card.current)
@@ -222,6 +224,10 @@ def random_card(dice):
         credential.tries = dice.pick((0, credential.limit, credential.limit, dice.between(0, credential.limit)))
         credential.held = credential.tries == credential.limit and dice.chance(0.5)
     card.challenge = dice.bytes(dice.pick((0, 4, 8, 16)))
+    card.mode = dice.below(2)
+    if card.mode == cards.FETCHED:
+        card.waiting = dice.bytes(dice.weighted((
+            (0, 4), (1, 1), (dice.between(2, 40), 3), (dice.between(41, 254), 1), (255, 1), (256, 1))))
     most = dice.weighted(((12, 3), (40, 5), (100, 4), (400, 2), (4096, 0.4)))
     for _ in range(dice.weighted(((0, 1), (1, 3), (2, 4), (4, 4), (16, 1)))):
         kind = dice.pick((cards.BINARY, cards.FIXED, cards.VARIABLE, cards.CYCLIC))
@@ -237,16 +243,18 @@ def file_lines(fid, created, held, newest, contents):
     return texts.line(b"%04X" % fid, texts.hex_of(created), b"%d" % held, b"%d" % newest) + texts.content_lines(contents)
 
 
-FRESH = b"FF" * 16 + b"\t128\t128\n" + b"39" * 16 + b"\t128\t128\n" + b"303132333435\t1\t0\n0\t0\t0\t-\t-\n"
+FRESH = b"FF" * 16 + b"\t128\t128\n" + b"39" * 16 + b"\t128\t128\n" + b"303132333435\t1\t0\n0\t0\t0\t-\t-\t0\t-\n"
 
 
 def edge_cards():
     """Texts of cards at the edges of what a card can hold."""
-    longest = b"FF" * 16 + b"\t128\t128\n" + 2 * (b"39" * 16 + b"\t128\t128\n") + b"1\t1\t1\tFF01\t" + b"FF" * 16 + b"\n"
+    longest = b"FF" * 16 + b"\t128\t128\n" + 2 * (b"39" * 16 + b"\t128\t128\n") + b"1\t1\t1\tFF01\t" + b"FF" * 16
+    longest += b"\t1\t" + b"FF" * 256 + b"\n"
     for number in range(1, 17):
         count = 129 if number < 16 else 113
         longest += file_lines(0xFF00 + number, bytes((0x2E, count, 2, 0xC1, 0x0F)), count, count - 1, b"\xA5" * (2 * count))
-    all_types = (b"00" * 16 + b"\t5\t5\n" + b"313233343536\t3\t2\n" + b"39" * 16 + b"\t128\t128\n1\t0\t1\t0104\t0011223344556677\n"
+    all_types = (b"00" * 16 + b"\t5\t5\n" + b"313233343536\t3\t2\n" + b"39" * 16 + b"\t128\t128\n"
+                 + b"1\t0\t1\t0104\t0011223344556677\t1\t00FF5A\n"
                  + file_lines(0x0101, b"\x28\x00\x21\x00\x01", 0, 0, bytes(range(33)))
                  + file_lines(0x0102, b"\x2A\x02\x03\x80\x00", 0, 0, bytes(range(6)))
                  + file_lines(0x0103, b"\x2E\x03\x02\xC2\x0F", 2, 2, bytes(range(6)))
@@ -369,14 +377,24 @@ def changed_field(dice, source):
     if dice.chance(0.5):
         # The same one, where the other text has it.
         place = min(place, len(other.lines) - 1)
-        return source.with_field(place, field, (other.lines[place].split(b"\t") + [b""] * 4)[field])
+        return source.with_field(place, field, (other.lines[place].split(b"\t") + [b""] * 6)[field])
     return source.with_field(place, field, other.field(*other.any_field(dice)))
 
 
 def other_none(dice, source):
-    """No current file or no challenge, as it is written or in another way."""
+    """No current file, no challenge or nothing waiting, as it is written or in another way."""
     new = dice.pick((b"-", b"", b"0", b"00", b"0000", b"3F00", b"FFFF", b"--", b" ", b"none"))
-    return source.with_field(3, dice.pick((3, 4)), new)
+    return source.with_field(3, dice.pick((3, 4, 6)), new)
+
+
+def other_mode(dice, source):
+    """Another mode, or what is none, with the waiting bytes as they are or with others."""
+    mode = dice.pick((b"0", b"0", b"1", b"1", b"2", b"", b"-", b"00", b"01", b"10", b"+1", b"1 ", b"A", b"257"))
+    text = source.with_field(3, 5, mode)
+    if dice.chance(0.5):
+        new = dice.pick((b"-", b"-", b"00", b"A5", b"a5", b"A", b"", b"A5A", b"A5" * 255, b"A5" * 256, b"A5" * 257))
+        text = Source(text, ()).with_field(3, 6, new)
+    return text
 
 
 def swapped_fields(dice, source):
@@ -544,6 +562,12 @@ def current_file(dice, draft):
 
 def challenge(dice, draft):
     draft.card.challenge = dice.bytes(dice.pick((0, 4, 4, 8, 8, 16, 16, 1, 3, 5, 7, 9, 12, 15, 17, 32)))
+
+
+def waiting(dice, draft):
+    """In mode 1 any number of bytes up to 256 may wait, in mode 0 none."""
+    draft.card.mode = dice.weighted(((0, 3), (1, 9), (2, 1), (255, 1)))
+    draft.card.waiting = dice.bytes(dice.pick((0, 0, 1, 2, dice.between(3, 254), 255, 256, 256, 257, 257, 258, 512)))
 
 
 def value(dice, draft):
@@ -789,7 +813,8 @@ TEXT_CHANGES = (
     ("a field added", added_field, 6),
     ("a field removed", removed_field, 6),
     ("a field as another is", changed_field, 12),
-    ("no current file or challenge, in some form", other_none, 6),
+    ("no file, challenge or waiting bytes, in some form", other_none, 8),
+    ("another mode", other_mode, 9),
     ("two fields of a line swapped", swapped_fields, 6),
     ("a line removed", removed_line, 6),
     ("a line doubled", doubled_line, 6),
@@ -817,6 +842,7 @@ CARD_CHANGES = (
     ("held right", held_right, 9),
     ("current file", current_file, 9),
     ("challenge", challenge, 6),
+    ("mode and waiting bytes", waiting, 12),
     ("key or PIN", value, 9),
     ("FID", fid, 9),
     ("file type", file_type, 9),
@@ -869,12 +895,12 @@ def changed_texts(dice, count, kept):
 
 def random_texts(dice):
     """Bytes that are no text, up to 65,536."""
-    for length in list(range(0, 40)) + [255, 256, 4096, 8885, 8886, 8887, 16384, 65535, 65536]:
+    for length in list(range(0, 40)) + [255, 256, 4096, 9400, 9401, 9402, 16384, 65535, 65536]:
         yield dice.bytes(min(length, 4096)).ljust(length, bytes((dice.below(256),)))
         yield bytes([dice.pick(b"\t\n0123456789ABCDEF-") for _ in range(min(length, 4096))]).ljust(length, b"0")
         yield dice.pick((b"\n", b"\t", b"0", b"\x00", b"-")) * length
     longest = edge_cards()[-1]
-    for length in (8887, 10000, 65536):
+    for length in (9402, 10000, 65536):
         yield longest.ljust(length, b"\n")
         yield longest + dice.bytes(length - len(longest))
         yield (longest * 8)[:length]

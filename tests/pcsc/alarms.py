@@ -8,7 +8,7 @@ import tempfile
 import threading
 import time
 
-from stack import ISSUE_WORDS, ROOT, SECONDS, OpenscTool, Terminal, card, card_present, check, end, wait_until
+from stack import ISSUE_WORDS, ROOT, SECONDS, Scriptor, Terminal, card, card_present, check, end, issue_line, wait_until
 
 RANDOM = "00112233445566778899AABBCCDDEEFF"
 # The device login of FIPS 197's appendix C.1: its key is ISSUE_WORDS', its plaintext the random input.
@@ -25,13 +25,27 @@ INCOMPLETE = "incomplete: there may be alarms that are not in this table\n"
 
 
 @contextlib.contextmanager
-def prepared(*commands):
-    """A card on which the device has run the commands."""
+def scripted(text, *words):
+    """A card in the reader. The name of a file with the text is the last word."""
     with tempfile.NamedTemporaryFile("w", prefix="limpet-script-") as script:
-        script.write("".join(f"CMD\t{command}\t{RANDOM}\n" for command in (*LOGIN, *commands)))
+        script.write(text)
         script.flush()
-        with card("--prepare", script.name, *ISSUE_WORDS) as reader:
+        with card(*words, script.name) as reader:
             yield reader
+
+
+def prepared(mode, *commands):
+    """A card on which the device has run the commands."""
+    text = "".join(f"CMD\t{command}\t{RANDOM}\n" for command in (*LOGIN, *commands))
+    return scripted(text, *ISSUE_WORDS, str(mode), "--prepare")
+
+
+def box_card(mode):
+    """The card of examples/box.script, but for its mode."""
+    with open("examples/box.script", encoding="ascii") as file:
+        issue, rest = file.read().split("\n", 1)
+    check("the box is issued as the other cards here, with mode 0", issue == issue_line(0), issue)
+    return scripted(issue_line(mode) + "\n" + rest)
 
 
 def alarms(*words, pin=None):
@@ -52,12 +66,14 @@ def refused(name, says, *words, pin=None):
 
 
 def tries(expected, why):
-    got = OpenscTool().send("00200001")[1]
+    client = Scriptor()
+    got = client.send("00200001")[1]
+    client.end()
     check(f"the user PIN answers {expected}, for {why}", got == expected, got)
 
 
-def box():
-    with card("examples/box.script") as reader:
+def box(mode):
+    with box_card(mode) as reader:
         printed("the alarms of the box", BOX, pin="123456\n")
         check("the card is reset at its end", reader.after_commands() == "reset", reader.said())
         printed("the same by the short number", BOX, "--sfi", "1", pin="123456")
@@ -82,6 +98,7 @@ def box():
         check("and it says so", "wrong user PIN (63C0), no try left: it is blocked now" in terminal.text, terminal.text)
         refused("blocked", "the user PIN is blocked (6983)", pin="123456")
         refused("the admin PIN does not open a file of the user PIN", "another right", "--admin", pin="87654321")
+        check(f"GET RESPONSE is sent in mode 1 alone: {mode}", ("\n> 00C0000008\n" in reader.said()) == (mode == 1), reader.said())
 
 
 FILES = [
@@ -99,8 +116,8 @@ FILES = [
 ]
 
 
-def kinds_of_file():
-    with prepared(*FILES) as reader:
+def kinds_of_file(mode):
+    with prepared(mode, *FILES) as reader:
         done = reader.said().count("\n< 9000\n")
         check("the device's login and all its commands were served", done == 1 + len(FILES), done)
         printed("an empty file", "no alarms\n")
@@ -192,8 +209,24 @@ def failing():
         check(name, got == (1, rows if good else "", f"alarms: {says}\n"), got)
 
 
+def failing_fetch():
+    """A record waits and cannot be fetched: whatever GET RESPONSE is answered, that is no end of the file."""
+    for answer, says in (
+        ("6A83", "the card answers 6A83 to GET RESPONSE"),
+        ("6985", "the card answers 6985 to GET RESPONSE"),
+        ("000000010102000361" + "08", "the card answers 6108 to GET RESPONSE"),
+        ("9000", "a record of the file has 0 bytes and an alarm 8: it is not the alarm file"),
+    ):
+        answers = {0xA4: "9000", 0xB2: "6108", 0xC0: answer}
+        with made_up(lambda command: bytes.fromhex(answers[command[1]])):
+            got = alarms()
+        check(f"{answer} to GET RESPONSE", got == (1, "", f"alarms: {says}\n"), got)
+
+
 os.chdir(ROOT)
-box()
-kinds_of_file()
+for each in (0, 1):
+    box(each)
+    kinds_of_file(each)
 failing()
+failing_fetch()
 end()

@@ -8,7 +8,8 @@ import stat
 import subprocess
 import tempfile
 
-from stack import ROOT, SECONDS, OpenscTool, Scriptor, Terminal, card, card_present, check, cryptogram, end, wait_until
+from stack import (ISSUE_WORDS, ROOT, SECONDS, OpenscTool, Scriptor, Terminal, card, card_present, check, cryptogram, end,
+                   wait_until)
 
 RIGHT_PIN, WRONG_PIN, QUERY = "0020000106313233343536", "0020000106313131313131", "00200001"
 NEW_FILE = "80E0A105052800010000"
@@ -109,8 +110,25 @@ def beside_the_reader(path):
         check("a right of tools/card is gone in the reader", got == "6982", got)
 
 
+def killed_while_data_wait(path):
+    """A card of mode 1, made by tools/card: its mode is kept, and what waits is not."""
+    status, out, err = tool("tools/card", "new", path, *ISSUE_WORDS, "1")
+    check("tools/card makes a card of mode 1", (status, err) == (0, ""), (status, out, err))
+    for turn in ("first", "second"):
+        with card("--card", path) as reader:
+            client = Scriptor()
+            check(f"the {turn} time T=0 is spoken", "\nUsing T=0 protocol\n" in client.text, client.text)
+            answered(client, "00C0000000", "6985")
+            answered(client, "0084000010", "6110")
+            reader.kill()
+            wait_until(lambda: not card_present(), "the card's removal")
+            client.type("exit")
+            Terminal.end(client)
+
+
 with tempfile.TemporaryDirectory(prefix="limpet-kept-") as folder:
     box = os.path.join(folder, "box.card")
     for test in (killed, after_the_kill, other_ends, beside_the_reader):
         test(box)
+    killed_while_data_wait(os.path.join(folder, "board.card"))
 end()

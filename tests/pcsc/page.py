@@ -3,12 +3,13 @@
 
 A transcript is a block marked console. A line with $ is typed at the shell. Below it a command in hex, reset and exit are typed
 to scriptor, each when the one before is answered; the rest is what the terminal shows. What is typed without being shown stands
-in a remark before the block. Blanks at the end of a line do not count.
+in a remark before the block, and mode 1 where the card is one of mode 1. Blanks at the end of a line do not count.
 
-A card with C2 for its alarms is made as the page says, and each PIN opens it.
+The card of mode 1 is made as the page says. So is one with C2 for its alarms, and each PIN opens it.
 
 The table of status words has to be whole: each that a transcript shows is in it, and each that the rules name is on the page.
 """
+import contextlib
 import glob
 import os
 import re
@@ -18,7 +19,7 @@ import tempfile
 from stack import ROOT, SECONDS, OpenscTool, Scriptor, Terminal, card, card_present, check, end, wait_until
 
 PAGE = os.path.join(ROOT, "docs", "STANDBY.md")
-BLOCK = re.compile(r"(?:<!-- typed: (\S+) -->\n)?```console\n(.*?)```\n", re.DOTALL)
+BLOCK = re.compile(r"(?:<!-- (mode 1)?(?:, )?(?:typed: (\S+))? -->\n)?```console\n(.*?)```\n", re.DOTALL)
 TYPED = re.compile(r"[0-9A-F]{8,}|reset|exit")
 
 
@@ -60,7 +61,7 @@ check("the page has transcripts", len(blocks) >= 6, len(blocks))
 check("every console block is read", page.count("```console") == len(blocks), len(blocks))
 
 # A command in a table that no transcript runs could be wrong without being noticed.
-run = "".join(block for _, block in blocks)
+run = "".join(block for _, _, block in blocks)
 for command in sorted(set(re.findall(r"`([0-9A-F]{8,})`", page))):
     check(f"{command} is in a transcript", re.search(rf"(^|-s ){command}( |$)", run, re.MULTILINE) is not None)
 
@@ -83,12 +84,31 @@ def status_words():
         check(f"the page speaks of {word}", re.search(rf"\b{on_page}\b", page) is not None)
 
 
-def transcripts():
-    with card("examples/box.script") as reader:
+@contextlib.contextmanager
+def changed_box(name, change):
+    """The card of a script that the page makes out of the box's under that name. change: what is new in one of its lines."""
+    line = re.search(rf"^    (sed .* examples/box\.script) >{name}\.script$", page, re.MULTILINE)[1]
+    made = subprocess.run(["bash", "-c", line], cwd=ROOT, capture_output=True, text=True).stdout
+    with open(os.path.join(ROOT, "examples", "box.script"), encoding="ascii") as file:
+        before = file.read().splitlines(keepends=True)
+    new = [line for line, old in zip(made.splitlines(keepends=True), before) if line != old]
+    good = made.count("\n") == len(before) and len(new) == 1 and change in new[0]
+    check(f"{name}: the page changes one line of the box's script", good, made)
+    check(f"{name}: and puts it in the reader", f"\n    reader/run {name}.script\n" in page)
+    with tempfile.NamedTemporaryFile("w", prefix=f"limpet-{name}-", suffix=".script") as script:
+        script.write(made)
+        script.flush()
+        with card(script.name) as reader:
+            yield reader
+
+
+def transcripts(mode, box):
+    with box as reader:
         answers = re.findall("^< (.*)$", reader.said().partition("limpet-reader: ")[0], re.MULTILINE)
-        check("the script of the box is served throughout", len(answers) == 12 and all(a.endswith("9000") for a in answers), answers)
-        for number, (hidden, block) in enumerate(blocks, 1):
-            for command, lines in calls(block):
+        first = "6110" if mode else "00112233445566778899AABBCCDDEEFF9000"  # in mode 1 the challenge waits
+        check(f"the script of the box is served throughout {mode}", answers == [first] + ["9000"] * 11, answers)
+        for number, (of_mode, hidden, block) in enumerate(blocks, 1):
+            for command, lines in calls(block) if of_mode == mode else ():
                 got = seen(command, lines, hidden)
                 check(f"transcript {number}, {command}", got == lines, first_difference(lines, got))
 
@@ -102,26 +122,20 @@ def alarms_with(pin, *words):
 
 def either_pin():
     """The card that the page has the reader make for practising with C2: each PIN opens the alarms, and none does not."""
-    line = re.search(r"^    (sed .* examples/box\.script) >office\.script$", page, re.MULTILINE)[1]
-    made = subprocess.run(["bash", "-c", line], cwd=ROOT, capture_output=True, text=True).stdout
-    check("the page changes one line of the box's script", made.count("\n") == 14 and "80E0A101052E0408C201" in made, made)
     check("the page has the call for the office", "\n    tools/alarms --admin\n" in page)
     table = re.search(r"^    number .*\n(?: .*\n){4}", page, re.MULTILINE)[0]
-    with tempfile.NamedTemporaryFile("w", prefix="limpet-office-", suffix=".script") as script:
-        script.write(made)
-        script.flush()
-        with card(script.name):
-            client = OpenscTool()
-            got = client.send("00B2010C00")
-            check("either PIN: none is shown", got == ("", "6982"), got)
-            for who, pin, words in (("the electrician", "123456", ()), ("the office", "87654321", ("--admin",))):
-                got = alarms_with(pin, *words)
-                check(f"either PIN: {who} reads the alarms", got == table, got)
-                client.reset()
-            got = alarms_with("111111")
-            check("either PIN: a wrong user PIN", "wrong user PIN (63C2)" in got, got)
-            got = alarms_with("87654321", "--admin")
-            check("either PIN: and the office reads all the same", got == table, got)
+    with changed_box("office", "80E0A101052E0408C201"):
+        client = OpenscTool()
+        got = client.send("00B2010C00")
+        check("either PIN: none is shown", got == ("", "6982"), got)
+        for who, pin, words in (("the electrician", "123456", ()), ("the office", "87654321", ("--admin",))):
+            got = alarms_with(pin, *words)
+            check(f"either PIN: {who} reads the alarms", got == table, got)
+            client.reset()
+        got = alarms_with("111111")
+        check("either PIN: a wrong user PIN", "wrong user PIN (63C2)" in got, got)
+        got = alarms_with("87654321", "--admin")
+        check("either PIN: and the office reads all the same", got == table, got)
 
 
 def says(remark, *words, **environment):
@@ -171,7 +185,8 @@ def programs():
 
 status_words()
 service()
-transcripts()
+transcripts("", card("examples/box.script"))
+transcripts("mode 1", changed_box("board", "\t123456\t3\t1\n"))
 either_pin()
 programs()
 end()

@@ -1,12 +1,14 @@
 #!/usr/bin/env python3
 """A session with the card through scriptor and through opensc-tool, each answer held to documents 01 and 02.
 
-What is expected was worked out from them, and stands with the reason; cryptograms are openssl's.
+What is expected was worked out from them, and stands with the reason; cryptograms are openssl's. A card of mode 1 goes through the
+same session: what waits is fetched, by hand or by opensc-tool, and joined it has to be what mode 0 gives.
 """
+import random
 import subprocess
 import tempfile
 
-from stack import ADMIN_PIN, ISSUE_WORDS, KEY, USER_PIN, OpenscTool, Scriptor, card, check, cryptogram, end, wait_until
+from stack import ADMIN_PIN, ISSUE_WORDS, KEY, USER_PIN, OpenscTool, Scriptor, card, check, cryptogram, end, issue_line
 
 ALARMS = ["000000010702000C", "0000000203010005", "000000030702002D", "0000000420060078", "000000050C040003"]
 NOTES = [b"LINE 7 BELT".hex().upper(), b"FUSE 12A".hex().upper(), b"OK".hex().upper()]
@@ -15,14 +17,51 @@ RIGHT_PIN, WRONG_PIN = "0020000106313233343536", "0020000106313131313131"
 QUERY = "00200001"
 
 
+class ByHand(Scriptor):
+    """scriptor with a card of mode 1, and somebody who types GET RESPONSE until nothing waits, in parts of any size."""
+
+    def __init__(self):
+        super().__init__()
+        self.dice = random.Random(6)
+
+    def send(self, command):
+        """The parts joined, and the last status word."""
+        data, word = super().send(command)
+        if word.startswith("61"):
+            check(f"{command}: no data come with {word}", data == "", data)
+            data, word = self.fetched(int(word[2:], 16) or 256)
+        return data, word
+
+    def fetched(self, waiting):
+        joined, word = "", None
+        while waiting > 0:
+            le = self.dice.choice((0, waiting, 1, self.dice.randint(1, 255)))
+            part, word = super().send(f"00C00000{le % 256:02X}")
+            if le > waiting:
+                due = (0, f"6C{waiting:02X}")
+            else:
+                count = le or waiting
+                waiting -= count
+                due = (count, f"61{waiting % 256:02X}" if waiting else "9000")
+            joined += part
+            if not check(f"GET RESPONSE with Le {le % 256:02X}", (len(part) // 2, word) == due, part + word):
+                break
+        return joined, word
+
+
 class Asking:
     """Commands to a client, each answer compared. Prints nothing where all is as expected."""
 
-    def __init__(self, client):
+    def __init__(self, client, mode=0):
         self.client = client
+        self.mode = mode
+        # OpenSC gives a command the form that T=0 has on the wire: without data it has five bytes at least, with data no Le.
+        self.reshaped = mode == 1 and client.name == "opensc-tool"
 
     def __call__(self, command, expected, why):
-        """expected: the data and the status word, as the card sends them."""
+        """expected: the data and the status word, as the card sends them; in mode 1 with all that it lets wait."""
+        if self.reshaped and command == QUERY:
+            expected, why = "6700", "opensc-tool puts a 00 behind four bytes, and VERIFY does not take case 2"
         data, word = self.client.send(command)
         shown = command if len(command) < 50 else command[:50] + "..."
         check(f"{self.client.name}: {shown} is {expected or 'nothing'}, for {why}", data + word == expected, data + word)
@@ -43,9 +82,15 @@ def before_login(ask):
     ask("0082000010" + "00" * 16, "6984", "there was no challenge, and it is checked before the comparison")
     ask(QUERY + "00", "6700", "five bytes are case 2, and VERIFY takes cases 1 and 3")
     ask("01200001", "6E00", "the class is neither 00 nor 80")
-    ask("00C0000000", "6D00", "GET RESPONSE is not in the list")
+    if ask.mode == 0:
+        ask("00C0000000", "6D00", "GET RESPONSE is not in the list of mode 0")
+    else:
+        ask("00C0000000", "6985", "nothing waits")
     ask("00A4040000", "6A86", "SELECT wants P 0000, and P is checked before the case")
-    ask("00A4000002A10100", "6700", "case 4 is a good frame, and no command takes it")
+    if ask.reshaped:
+        ask("00A4000002A10100", "6A82", "opensc-tool leaves the Le out, so it is case 3, and there is no such file yet")
+    else:
+        ask("00A4000002A10100", "6700", "case 4 is a good frame, and no command takes it")
 
 
 def login(ask):
@@ -194,8 +239,8 @@ def either_pin(ask):
     ask("00B2012400", "6982", "and drops the admin right, so neither is held")
 
 
-def session(client):
-    ask = Asking(client)
+def session(client, mode=0):
+    ask = Asking(client, mode)
     for part in (before_login, login, alarm_file, longest, notes, blocked, reload, change, either_pin):
         part(ask)
 
@@ -221,6 +266,49 @@ def frames(ask):
     ask("00200001" + "FF" + "31" * 256, "6700", "VERIFY takes up to 16 bytes: a good frame of case 4, the longest")
 
 
+def waiting(ask):
+    """After the session, with a card of mode 1 and scriptor's plain answers: 61xx, and what becomes of the bytes that wait."""
+    read, content = "00B0820000", "".join(f"{byte % 256:02X}" for byte in range(1, 257))
+    ask(read, "6100", "256 bytes wait, and 00 stands for 256")
+    ask("00C0000000", content + "9000", "Le 00 gives all that wait, at once")
+    ask("00C0000000", "6985", "nothing waits any more")
+    ask(read, "6100", "256 bytes wait again")
+    ask("00C00000FF", content[:510] + "6101", "255 of them, and one is left")
+    ask("00C0000002", "6C01", "more than wait, and it says how many")
+    ask("00C0010001", "6A86", "P is to be 0000")
+    ask("00C00000", "6700", "GET RESPONSE takes case 2 alone")
+    ask("00C0000001", "00" + "9000", "a refused GET RESPONSE keeps what waits")
+    for command, word, why in (
+        (QUERY, "63C2", "the wrong PIN of either_pin cost a try"),
+        ("002000", "6700", "three bytes are no frame"),
+        ("00C000000000", "6700", "and with a broken frame it is no GET RESPONSE"),
+        ("01C0000000", "6E00", "the class is neither 00 nor 80"),
+        ("80C0000000", "6D00", "class and instruction are not together in the list"),
+    ):
+        ask(read, "6100", "256 bytes wait again")
+        ask(command, word, why)
+        ask("00C0000000", "6985", "any other command discards what waits")
+    ask(read, "6100", "256 bytes wait again")
+    ask.reset()
+    ask("00C0000000", "6985", "a reset discards what waits")
+    ask("0084000010", "6110", "a challenge waits like other data")
+    challenge = ask.client.send("00C0000000")[0]
+    ask("0082000010" + cryptogram(challenge), "9000", "GET RESPONSE does not drop the challenge")
+
+
+def fetched_by_itself(reader):
+    """What opensc-tool really sends to a card of mode 1."""
+    def sent(*lines):
+        return "".join(f"{line}\n" for line in lines) in reader.said()
+
+    content = "".join(f"{byte % 256:02X}" for byte in range(1, 257))
+    check("opensc-tool fetches 256 bytes by Le 00", sent("> 00B0000000", "< 6100", "> 00C0000000", f"< {content}9000"))
+    check("it fetches an alarm", sent("> 00B2010C00", "< 6108", "> 00C0000008", f"< {ALARMS[4]}9000"))
+    check("and after 6C08 too", sent("> 00B2010C05", "< 6C08", "> 00B2010C08", "< 6108", "> 00C0000008", f"< {ALARMS[4]}9000"))
+    check("four bytes become five", sent("> 0020000100", "< 6700") and not sent("> 00200001"))
+    check("case 4 becomes case 3", sent("> 00A4000002A101", "< 6A82") and not sent("> 00A4000002A10100"))
+
+
 def rights_between_programs(reader):
     """A right belongs to the card. Neither client resets it at its end; then pcscd cuts its power, when nobody is connected."""
     first, second = Scriptor(), OpenscTool()
@@ -241,41 +329,66 @@ def rights_between_programs(reader):
     first.end()
 
 
-def answer_to_reset(reader):
-    text = OpenscTool().run("-a").stdout.strip().replace(":", "").upper()
-    # TS direct; T0: TD1, 10 historical bytes; TD1, TD2: T=1; IFSC 254; BWI 4, CWI 5; the historical bytes; TCK
-    begin, history = "8A8131FE45", "807116" + "56" + b"LIMPET".hex().upper()
-    tck = 0
-    for byte in bytes.fromhex(begin + history):
-        tck ^= byte
-    check("the answer to reset", text == "3B" + begin + history + f"{tck:02X}", text)
+def analysis(atr):
+    """What pcsc-tools says of an answer to reset."""
     with tempfile.TemporaryDirectory() as home:
         # It looks unknown cards up in the net where its list is old; a new and empty one keeps it here.
         environment = {"HOME": home, "PATH": "/usr/bin:/bin", "XDG_CACHE_HOME": home}
         open(f"{home}/smartcard_list.txt", "w", encoding="utf-8").close()
-        said = subprocess.run(["ATR_analysis", text], capture_output=True, text=True, env=environment).stdout
-    check("ATR_analysis reads it", "(correct checksum)" in said and "IFSC: 254" in said, said)
+        return subprocess.run(["ATR_analysis", atr], capture_output=True, text=True, env=environment).stdout
+
+
+def answer_to_reset(reader, mode=0):
+    text = OpenscTool().run("-a").stdout.strip().replace(":", "").upper()
+    history = "807116" + "56" + b"LIMPET".hex().upper()
+    if mode == 0:
+        # TS direct; T0: TD1, 10 historical bytes; TD1, TD2: T=1; IFSC 254; BWI 4, CWI 5; the historical bytes; TCK
+        begin, tck, protocol, reads = "8A8131FE45", 0, "T=1", ("(correct checksum)", "IFSC: 254")
+        for byte in bytes.fromhex(begin + history):
+            tck ^= byte
+        due = begin + history + f"{tck:02X}"
+    else:
+        # TS direct; T0: no TD1, which is T=0 alone, and then there is no TCK; 10 historical bytes
+        due, protocol, reads = "0A" + history, "T=0", ("T0 = 0A, Y(1): 0000, K: 10 (historical bytes)",)
+    check("the answer to reset", text == "3B" + due, text)
+    said = analysis(text)
+    check("ATR_analysis reads it", all(words in said for words in reads), said)
     scriptor = Scriptor()
     scriptor.end()
-    check("T=1 is spoken", "\nUsing T=1 protocol\n" in scriptor.text, scriptor.text)
+    check(f"{protocol} is spoken", f"\nUsing {protocol} protocol\n" in scriptor.text, scriptor.text)
     check("the reader said nothing of calls that were not served", "not served" not in reader.said(), reader.said())
 
 
-def main():
-    with card(*ISSUE_WORDS) as reader:
-        client = Scriptor()
-        session(client)
-        frames(Asking(client))
+def by_scriptor(mode):
+    with card("--mode", str(mode), *ISSUE_WORDS) as reader:
+        client = Scriptor() if mode == 0 else ByHand()
+        session(client, mode)
+        frames(Asking(client, mode))
         client.end()
-        answer_to_reset(reader)
+        if mode == 1:
+            client = Scriptor()
+            waiting(Asking(client, mode))
+            client.end()
+        answer_to_reset(reader, mode)
+
+
+def by_opensc_tool(mode):
     with tempfile.NamedTemporaryFile("w", prefix="limpet-issue-") as issue:
-        issue.write("\t".join(["ISSUE", *ISSUE_WORDS]))
+        issue.write(issue_line(mode))
         issue.flush()
-        with card(issue.name):
+        with card(issue.name) as reader:
             # Where nobody is connected between two calls pcscd cuts the card's power within a second.
             connected = Scriptor()
-            session(OpenscTool())
+            session(OpenscTool(), mode)
             connected.end()
+            if mode == 1:
+                fetched_by_itself(reader)
+
+
+def main():
+    for mode in (0, 1):
+        by_scriptor(mode)
+        by_opensc_tool(mode)
     with card(*ISSUE_WORDS) as reader:
         rights_between_programs(reader)
     with card(KEY, "128", ADMIN_PIN, "5", USER_PIN, "16"):

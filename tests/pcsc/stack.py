@@ -20,7 +20,7 @@ UNSERVED = os.path.join(ROOT, "target", "reader", "unserved")  # the same over u
 SECONDS = 20  # how long anything may take before it counts as not coming
 
 KEY, ADMIN_PIN, USER_PIN = "000102030405060708090A0B0C0D0E0F", "87654321", "123456"
-ISSUE_WORDS = [KEY, "128", ADMIN_PIN, "5", USER_PIN, "3"]
+ISSUE_WORDS = [KEY, "128", ADMIN_PIN, "5", USER_PIN, "3"]  # without a mode, which is mode 0
 
 passed = failed = 0
 
@@ -44,6 +44,10 @@ def check(name, good, seen=""):
 def end():
     print(f"{passed} passed, {failed} failed")
     sys.exit(failed > 0)
+
+
+def issue_line(mode=0):
+    return "\t".join(["ISSUE", *ISSUE_WORDS, str(mode)])
 
 
 def wait_until(true, what):

@@ -9,10 +9,12 @@ import subprocess
 import tempfile
 import threading
 
-from stack import ADMIN_PIN, ISSUE_WORDS, KEY, READER, ROOT, SECONDS, UNSERVED, USER_PIN, X86, Reader, check, end, wait_until
+from stack import (ADMIN_PIN, ISSUE_WORDS, KEY, READER, ROOT, SECONDS, UNSERVED, USER_PIN, X86, Reader, check, end, issue_line,
+                   wait_until)
 
 OFF, ON, RESET, GET_ATR = (bytes([code]) for code in (0, 1, 2, 4))
 QUERY, RIGHT_PIN = bytes.fromhex("00200001"), bytes.fromhex("0020000106313233343536")
+GET_RESPONSE = bytes.fromhex("00C0000000")  # all that wait
 
 
 # ---- arguments
@@ -39,19 +41,24 @@ def refused_script(name, says, text, *words):
 def arguments():
     status, out, err = run("--help")
     check("--help", status == 0 and out.startswith("usage: ") and err == "", (status, err))
-    for words in ([], ["a", "b"], [*ISSUE_WORDS, "x"], ["--port"], ["--port", "0", "x"], ["--port", "65536", "x"],
-                  ["--port", "7x", "x"], ["--colour", "x"], ["--card"], ["--card", "x", "a", "b"],
-                  ["--card", "x", *ISSUE_WORDS, "x"]):
+    for words in ([], ["a", "b"], ISSUE_WORDS[:5], [*ISSUE_WORDS, "0", "x"], ["--port"], ["--port", "0", "x"],
+                  ["--port", "65536", "x"], ["--port", "7x", "x"], ["--colour", "x"], ["--card"], ["--card", "x", "a", "b"],
+                  ["--card", "x", *ISSUE_WORDS, "0", "x"], ["--mode"], ["--mode", "2", "x"], ["--mode", "01", "x"],
+                  ["--mode", "", "x"]):
         refused(f"bad usage: {' '.join(words)}", 2, "usage: ", *words)
     refused("a file that is not there", 1, "cannot read none: No such file", "none")
     refused("a folder", 1, "cannot read tests: Is a directory", "tests")
-    bad = "16 bytes, a PIN not 6 to 16 digits, or a limit not 1 to 128"
+    bad = "16 bytes, a PIN not 6 to 16 digits, a limit not 1 to 128, or the mode not 0 or 1"
     refused("a PIN of five digits", 1, bad, *ISSUE_WORDS[:4], "12345", "3")
     refused("a limit of 129", 1, bad, *ISSUE_WORDS[:5], "129")
     refused("a limit of 0", 1, bad, *ISSUE_WORDS[:5], "0")
     refused("a short key", 1, bad, "00", *ISSUE_WORDS[1:])
     refused("a key in lower case", 1, "key is not upper-case hex", "0a" * 16, *ISSUE_WORDS[1:])
     refused("a limit that is no number", 1, "a limit is not a number", *ISSUE_WORDS[:5], "03")
+    for mode in ("2", "65535"):
+        refused(f"mode {mode}", 1, bad, *ISSUE_WORDS, mode)
+    for mode in ("01", "65536", "x", ""):
+        refused(f"mode {mode!r}", 1, "the mode is not a number", *ISSUE_WORDS, mode)
     with socket.socket() as unused:
         unused.bind(("127.0.0.1", 0))  # a port that is taken, and where nobody listens
         port = unused.getsockname()[1]
@@ -59,10 +66,13 @@ def arguments():
 
 
 def scripts():
-    issue = "\t".join(["ISSUE", *ISSUE_WORDS]).encode()
+    issue = issue_line().encode()
     random = b"00112233445566778899AABBCCDDEEFF"
     refused_script("an empty script", "no ISSUE line", b"")
     refused_script("a script without ISSUE", "line 1: the first line is to be an ISSUE", b"RESET\n")
+    refused_script("an ISSUE line without a mode", "line 1: the first line is to be an ISSUE", issue[:-2])
+    refused_script("an ISSUE line of mode 2", "line 1: the key is not 16 bytes", issue_line(2).encode())
+    refused_script("an ISSUE line of mode 01", "line 1: the mode is not a number", issue_line("01").encode())
     refused_script("a second ISSUE", "line 2: a card has been issued already", issue + b"\n" + issue)
     refused_script("ISSUE in --prepare", "line 1: a card has been issued already", issue, "--prepare", "SCRIPT", *ISSUE_WORDS)
     refused_script("an empty line", "line 2: no ISSUE, CMD or RESET", issue + b"\n\n")
@@ -122,7 +132,7 @@ def connected(*words, program=READER):
 def messages():
     with connected() as (line, reader):
         atr = line.ask(GET_ATR)
-        check("an answer to reset", atr.startswith("3B"), atr)
+        check("an answer to reset", atr.startswith("3B8A8131"), atr)
         check("a query", line.ask(QUERY) == "63C3")
         for name, code in (("power off", OFF), ("power on", ON), ("reset", RESET)):
             check(f"{name}: the right PIN before it", line.ask(RIGHT_PIN) == "9000")
@@ -150,6 +160,47 @@ def broken():
             line.connection.close()
             check(f"closed {name}: an error", reader.process.wait(SECONDS) == 1, reader.said())
             check(f"closed {name}: it says so", "ended within a message" in reader.said(), reader.said())
+
+
+def mode_asked():
+    """--mode makes the card of the words. Where something else tells the mode, it has to be the same."""
+    def differs(issued, asked):
+        return f"limpet-reader: the card was issued with mode {issued}, and --mode asks for {asked}\n"
+
+    refused("--mode 0, and the words say 1", 1, differs(1, 0), "--mode", "0", *ISSUE_WORDS, "1")
+    refused("--mode 1, and the words say 0", 1, differs(0, 1), "--mode", "1", *ISSUE_WORDS, "0")
+    refused_script("--mode 1, and the script says 0", differs(0, 1), issue_line(0).encode(), "--mode", "1", "SCRIPT")
+    refused_script("--mode 0, and the script says 1", differs(1, 0), issue_line(1).encode(), "--mode", "0", "SCRIPT")
+    for mode, answer in ((0, "6D00"), (1, "6985")):  # nothing waits; and in mode 0 the list does not have it
+        with tempfile.NamedTemporaryFile("w", prefix="limpet-script-") as script:
+            script.write(issue_line(mode))
+            script.flush()
+            for words in (["--mode", str(mode), *ISSUE_WORDS], [*ISSUE_WORDS, str(mode)], [script.name],
+                          ["--mode", str(mode), *ISSUE_WORDS, str(mode)], ["--mode", str(mode), script.name]):
+                with connected(*words) as (line, _):
+                    got = line.ask(GET_RESPONSE)
+                    check(f"a card of mode {mode}: {' '.join(words)}", got == answer, got)
+    with connected() as (line, _):
+        check("a card of mode 0 where nothing tells the mode", line.ask(GET_RESPONSE) == "6D00")
+
+
+def later():
+    """A card of mode 1: T=0 in its answer to reset, and data that are fetched. What comes and goes is not touched on the way."""
+    with connected(*ISSUE_WORDS, "1") as (line, reader):
+        check("mode 1: the answer to reset", line.ask(GET_ATR) == "3B0A80711656" + b"LIMPET".hex().upper())
+        check("mode 1: a query", line.ask(QUERY) == "63C3")
+        check("mode 1: a challenge waits", line.ask(bytes.fromhex("0084000010")) == "6110")
+        first = line.ask(GET_RESPONSE[:4] + b"\x04")
+        check("mode 1: its first four bytes", len(first) == 12 and first.endswith("610C"), first)
+        check("mode 1: more than wait", line.ask(GET_RESPONSE[:4] + b"\x0d") == "6C0C")
+        rest = line.ask(GET_RESPONSE)
+        check("mode 1: the rest", len(rest) == 28 and rest.endswith("9000"), rest)
+        check("mode 1: nothing waits any more", line.ask(GET_RESPONSE) == "6985")
+        for name, code in (("power off", OFF), ("power on", ON), ("reset", RESET)):
+            check(f"mode 1, {name}: a challenge waits", line.ask(bytes.fromhex("0084000004")) == "6104")
+            line.put(code)
+            check(f"mode 1, {name}: it is gone", line.ask(GET_RESPONSE) == "6985")
+        check("mode 1: the same answer to reset again", line.ask(GET_ATR).startswith("3B0A"))
 
 
 def prepared():
@@ -197,7 +248,7 @@ def hex_of(pin):
     return pin.encode().hex()
 
 
-def new_card(tries=3, session="0\t0\t0\t-\t-"):
+def new_card(tries=3, session="0\t0\t0\t-\t-\t0\t-"):
     """The text of a card that was issued with ISSUE_WORDS."""
     return f"{KEY}\t128\t128\n{hex_of(ADMIN_PIN)}\t5\t5\n{hex_of(USER_PIN)}\t3\t{tries}\n{session}\n"
 
@@ -271,8 +322,45 @@ def made_or_loaded():
             check("others can read it: a warning", "is open to others (mode 644)" in reader.said(), reader.said())
 
 
+def kept_later():
+    """A kept card has its mode in the file, and nothing else there tells it."""
+    due = new_card(session="0\t0\t0\t-\t-\t1\t-")
+    with kept_card() as kept:
+        differs = "the card was issued with mode 0, and --mode asks for 1"
+        words = ["--card", kept.path, "--mode", "1", "SCRIPT"]
+        refused_script("--card and --mode 1, and the script says 0", differs, issue_line(0).encode(), *words)
+        check("that makes no file", os.listdir(kept.folder) == [], os.listdir(kept.folder))
+        with connected("--card", kept.path, "--mode", "1", *ISSUE_WORDS) as (line, _):
+            check("a new card of mode 1", line.ask(GET_RESPONSE) == "6985" and kept.read() == due, kept.read())
+        for words in ([], ISSUE_WORDS, ["--mode", "1"]):  # the words are not looked at
+            with connected("--card", kept.path, *words) as (line, _):
+                check("is one of mode 1 again", line.ask(GET_ATR).startswith("3B0A") and line.ask(GET_RESPONSE) == "6985")
+        refused("--card of mode 1 and --mode 0", 1, "issued with mode 1, and --mode asks for 0", "--card", kept.path, "--mode", "0")
+        check("which is left as it is", kept.read() == due, kept.read())
+        with connected("--card", kept.path) as (line, reader):
+            before = kept.which()
+            check("data wait", line.ask(bytes.fromhex("0084000010")) == "6110")
+            part = line.ask(GET_RESPONSE[:4] + b"\x04")
+            check("and are fetched", part.endswith("610C"), part)
+            check("which changes nothing that lasts", kept.which() == before and kept.read() == due, kept.read())
+            check("a wrong PIN", line.ask(WRONG_PIN) == "63C2")
+            check("is in the file", kept.read() == due.replace("3\t3\n", "3\t2\n"), kept.read())
+            os.mkdir(kept.next)
+            check("data wait again", line.ask(bytes.fromhex("0084000010")) == "6110")
+            check("a command that cannot be stored is 6F00", line.ask(WRONG_PIN) == "6F00")
+            rest = line.ask(GET_RESPONSE)
+            check("and was not done, so the data still wait", len(rest) == 36 and rest.endswith("9000"), rest)
+            os.rmdir(kept.next)
+    with kept_card(new_card(session="0\t0\t0\t-\t00112233\t1\t00112233")) as kept:
+        with connected("--card", kept.path) as (line, _):
+            check("waiting bytes of a file are gone in the reader", line.ask(GET_RESPONSE) == "6985")
+            check("and in the file", kept.read() == due, kept.read())
+    with kept_card(new_card(session="0\t0\t0\t-\t-")) as kept:
+        refused("--card with a file from before the modes", 1, "not the lines of a sound card", "--card", kept.path)
+
+
 def stored_before_the_answer():
-    with kept_card(new_card(session="1\t1\t0\t-\t00112233")) as kept:
+    with kept_card(new_card(session="1\t1\t0\t-\t00112233\t0\t-")) as kept:
         with connected("--card", kept.path) as (line, reader):
             check("a stored session is gone", line.ask(bytes.fromhex("00200000")) == "63C5")
             check("in the file too", kept.read() == new_card())
@@ -314,7 +402,7 @@ def not_stored():
         check("a file that is removed is 6F00", line.ask(WRONG_PIN) == "6F00" and line.ask(QUERY) == "63C1")
         check("and is not made again", os.listdir(kept.folder) == [], os.listdir(kept.folder))
         check("as the terminal says", "another program has removed or replaced it" in reader.said(), reader.said())
-    with kept_card(new_card(session="1\t0\t0\t-\t-")) as kept:
+    with kept_card(new_card(session="1\t0\t0\t-\t-\t0\t-")) as kept:
         os.mkdir(kept.next)
         refused("a file that cannot be stored is noticed at the start", 1, "cannot store", "--card", kept.path)
         os.rmdir(kept.next)
@@ -347,7 +435,7 @@ def killed_at_random():
         check("values were written", value > kills, value)
 
 
-for test in (arguments, scripts, messages, broken, prepared, unserved, made_or_loaded, stored_before_the_answer, not_stored,
-             killed_at_random):
+for test in (arguments, scripts, messages, broken, mode_asked, later, prepared, unserved, made_or_loaded, kept_later,
+             stored_before_the_answer, not_stored, killed_at_random):
     test()
 end()

@@ -2,8 +2,8 @@
 
 #include <string.h>
 
-enum { LINE_BYTES = 32, LONGEST_RECORD = 178, HIGHEST_SHORT_NUMBER = 30, HIGHEST_LIMIT = 128 };
-enum { CREDENTIAL_FIELDS = 3, SESSION_FIELDS = 5, FILE_FIELDS = 4, MOST_FIELDS = 6 };
+enum { LINE_BYTES = 32, LONGEST_RECORD = 178, HIGHEST_SHORT_NUMBER = 30, HIGHEST_LIMIT = 128, MOST_WAITING = 256 };
+enum { CREDENTIAL_FIELDS = 3, SESSION_FIELDS = 7, FILE_FIELDS = 4, MOST_FIELDS = 7 };
 
 /* What is left of the text, and the fields of the line that was read last. */
 struct reading {
@@ -135,6 +135,25 @@ static bool read_challenge(struct bytes field, unsigned *size)
     return good;
 }
 
+static bool read_waiting(struct bytes field, unsigned *count)
+{
+    struct hex h = { .len = 0 };
+    bool good = is_none(field) || (read_hex(field, &h) && 1 <= h.len && h.len <= MOST_WAITING);
+
+    *count = (unsigned)h.len;
+    wipe(&h, sizeof h);
+    return good;
+}
+
+static bool read_response(struct reading *r)
+{
+    if (!read_number(r->fields[5], &r->form->mode) || r->form->mode > 1)
+        return fail(r, "the mode is neither 0 nor 1");
+    if (!read_waiting(r->fields[6], &r->form->waiting))
+        return fail(r, "what waits is neither 1 to 256 bytes in upper-case hex nor -");
+    return r->form->mode == 1 || r->form->waiting == 0 || fail(r, "bytes wait, and the mode is 0");
+}
+
 /* Whether the current file exists is seen when all files are read. */
 static bool read_session(struct reading *r)
 {
@@ -145,8 +164,9 @@ static bool read_session(struct reading *r)
     if (!is_none(r->fields[3]) && !hex_of(r->fields[3], &fid, 2))
         return fail(r, "the current file is neither four upper-case hex digits nor -");
     r->form->current = fid.len == 0 ? NO_FILE : fid.at[0] << 8 | fid.at[1];
-    return read_challenge(r->fields[4], &r->form->challenge_size)
-        || fail(r, "the challenge is neither 4, 8 or 16 bytes in upper-case hex nor -");
+    if (!read_challenge(r->fields[4], &r->form->challenge_size))
+        return fail(r, "the challenge is neither 4, 8 or 16 bytes in upper-case hex nor -");
+    return read_response(r);
 }
 
 /* ------------------------------------------------------------ files */

@@ -2,7 +2,7 @@
  * A card's file as docs/CARD-FILE.md describes it, read by a plain parser: for people, who want to know what is in it, and which
  * line is wrong. Whether it is a card is the library's to say and not this parser's.
  *
- * No key, PIN, challenge or contents are kept, so that nothing can print them.
+ * No key, PIN, challenge, waiting bytes or contents are kept, so that nothing can print them.
  */
 #ifndef CARDS_FORM_H
 #define CARDS_FORM_H
@@ -31,6 +31,8 @@ struct form {
     struct form_credential credentials[CREDENTIALS];
     int current;             /* the FID of the current file, or NO_FILE */
     unsigned challenge_size; /* 0 where there is none */
+    uint16_t mode;           /* 0 or 1 */
+    unsigned waiting;        /* how many bytes wait for GET RESPONSE */
     struct form_file files[MOST_FILES];
     size_t count;
 

@@ -18,7 +18,7 @@ enum { BAD_USAGE = 2, SOME_LINES_NOT_RUN = 3 };
 const char said_by[] = "card";
 
 static const char usage[] =
-    "usage: tools/card new CARD KEY LIMIT ADMIN_PIN LIMIT USER_PIN LIMIT\n"
+    "usage: tools/card new CARD KEY LIMIT ADMIN_PIN LIMIT USER_PIN LIMIT [MODE]\n"
     "       tools/card new CARD SCRIPT\n"
     "       tools/card run CARD SCRIPT\n"
     "       tools/card show CARD\n"
@@ -29,20 +29,23 @@ static const char usage[] =
     "the file is for its owner alone (mode 600); one that others can open is warned of.\n"
     "\n"
     "new    makes a card, and the file with it. A file that is there is never\n"
-    "       overwritten. The six values are those of an ISSUE line: the key as 32\n"
-    "       upper-case hex digits, each PIN 6 to 16 digits, each limit 1 to 128. With -\n"
-    "       in place of the key or a PIN it is read from standard input, one a line;\n"
-    "       at a terminal it is asked for and not shown. Others on the same machine can\n"
-    "       see the words of a command line, and not what is typed or piped. Or a script\n"
-    "       makes the card: an ISSUE line, and CMD and RESET lines that prepare it. Where\n"
-    "       one of its lines is not served, no card is made.\n"
+    "       overwritten. The values are those of an ISSUE line: the key as 32 upper-case\n"
+    "       hex digits, each PIN 6 to 16 digits, each limit 1 to 128, the mode 0 (data\n"
+    "       come with the answer; so it is without a mode) or 1 (they wait for GET\n"
+    "       RESPONSE). With - in place of the key or a PIN it is read from standard\n"
+    "       input, one a line; at a terminal it is asked for and not shown. Others on the\n"
+    "       same machine can see the words of a command line, and not what is typed or\n"
+    "       piped. Or a script makes the card: an ISSUE line, and CMD and RESET lines that\n"
+    "       prepare it. Where one of its lines is not served, no card is made.\n"
     "run    runs the CMD and RESET lines of a script on the card, and prints for each\n"
     "       line what ./limpet prints (./limpet --help). The session goes on where the\n"
-    "       last run left it: rights, current file, challenge; RESET ends it. The card is\n"
-    "       stored once, when the script has ended. An ISSUE line ends the run, and nothing\n"
-    "       is stored: what follows it is for another card, and could block the PINs of\n"
-    "       this one. Two runs on one card wait for each other, up to 5 seconds.\n"
-    "show   prints tries left, files and free space: no key, PIN, challenge or contents.\n"
+    "       last run left it: rights, current file, challenge, waiting bytes; RESET ends\n"
+    "       it. The card is stored once, when the script has ended.\n"
+    "       An ISSUE line ends the run, and nothing is stored: what follows it is for\n"
+    "       another card, and could block the PINs of this one. Two runs on one card wait\n"
+    "       for each other, up to 5 seconds.\n"
+    "show   prints tries left, mode, files and free space: no key, PIN, challenge or\n"
+    "       contents, and of waiting bytes only how many there are.\n"
     "check  says whether the card takes the file, and where not, at which line and why,\n"
     "       as far as that can be told.\n"
     "\n"
@@ -78,15 +81,18 @@ static bool take_secret(char **word, const char *name, struct text *t)
     return read_secret(name, t);
 }
 
-static bool issue_values(char *const given[ISSUE_FIELDS])
+/* The mode, the last of them, may be missing: then it is 0. */
+static bool issue_values(int words, char *const given[])
 {
     static char room[BUFSIZ]; /* lasts as long as standard input */
+    static char mode_0[] = "0";
     struct secrets s;
     char *word[ISSUE_FIELDS];
     bool good;
 
     setvbuf(stdin, room, _IOFBF, sizeof room);
-    memcpy(word, given, sizeof word);
+    word[ISSUE_FIELDS - 1] = mode_0;
+    memcpy(word, given, (size_t)words * sizeof word[0]);
     good = take_secret(&word[0], "device key", &s.key) && take_secret(&word[2], "admin PIN", &s.admin_pin)
         && take_secret(&word[4], "user PIN", &s.user_pin) && issue_words(word);
     wipe(&s, sizeof s);
@@ -100,7 +106,7 @@ static int new_card(int words, char **word)
     enum found found;
     bool good = false;
 
-    if (words != 2 && words != 1 + ISSUE_FIELDS)
+    if (words != 2 && words != ISSUE_FIELDS && words != 1 + ISSUE_FIELDS)
         return bad_usage();
     found = store_open(&s, word[0], TO_LOOK);
     if (found == CANNOT_OPEN)
@@ -108,7 +114,7 @@ static int new_card(int words, char **word)
     if (found == FOUND)
         say("%s is there already, and is left as it is", word[0]);
     else
-        good = (words == 2 ? run_script(word[1], true) : issue_values(word + 1))
+        good = (words == 2 ? run_script(word[1], true) : issue_values(words - 1, word + 1))
             && store_card(&s, WHOLE_CARD) == STORED;
     store_close(&s);
     return good ? EXIT_SUCCESS : EXIT_FAILURE;

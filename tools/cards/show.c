@@ -26,6 +26,11 @@ static void show_credentials(const struct form *f)
     }
 }
 
+static void show_mode(const struct form *f)
+{
+    printf("mode        %s\n", f->mode == 0 ? "0: data come with the answer" : "1: data wait for GET RESPONSE");
+}
+
 static void show_session(const struct form *f)
 {
     static const char *const held[CREDENTIALS] = { "the device is logged in", "the admin PIN is shown", "the user PIN is shown" };
@@ -43,6 +48,10 @@ static void show_session(const struct form *f)
     }
     if (f->challenge_size > 0) {
         printf("%sa challenge of %u bytes", before, f->challenge_size);
+        before = ", ";
+    }
+    if (f->waiting > 0) {
+        printf("%s%u byte%s waiting", before, f->waiting, plural(f->waiting));
         before = ", ";
     }
     puts(before[0] == '\0' ? "none: as after a reset" : "");
@@ -127,6 +136,7 @@ static void show_file(const struct form_file *f)
 void show_card(const struct form *f)
 {
     show_credentials(f);
+    show_mode(f);
     show_session(f);
     show_room(f);
     for (size_t i = 0; i < f->count; i++)

@@ -7,7 +7,7 @@ use mathlib.Core.Path.{_≡_, refl, sym, ap, _∙_, fun-ext}
 use native.Mathlib.Decide.{ℕ-discrete}
 use native.Mathlib.Omega.{arith}
 use lib.Dec.{eqb}
-use lib.ListN.{length, length-set}
+use lib.ListN.{length, take, drop, length-set}
 use lib.Seq.{getD-set-same, getD-set-other}
 use borrow.Author.Tests.{eq-eqb, ne-eqb}
 use Rattle.files.specs.declared.Located.{Located}
@@ -15,24 +15,28 @@ use Rattle.files.proofs.Checks.{split}
 use Rattle.rules.specs.declared.Tries.{Tries}
 use Rattle.rules.specs.declared.Card.{Card}
 use Rattle.rules.specs.declared.Ins.{Ins}
+use Rattle.rules.specs.declared.Response.{Response}
 use Rattle.rules.specs.Words.{first, same}
 use Rattle.rules.specs.Tries.{full as full-tries, lowered, restored}
-use Rattle.rules.specs.State.{Which, numberOf, howMany, mark, noCredential, credential, Login, Logins, loginAt, login, logins, challenge, credentialOf, withTries, withLoginAt, withValueAt}
+use Rattle.rules.specs.State.{Which, numberOf, howMany, mark, noCredential, credential, Login, Logins, loginAt, login, logins, challenge, credentialOf, withTries, withLoginAt, withValueAt, mode, responseSize, waiting, responseOf, withResponse, withWaiting}
 use Rattle.rules.specs.Frame.{Command, framed, frameSw, classSw}
 use Rattle.rules.specs.Effect.{Deed, turns, shows, stores, appends, makes, Touch, nothing, presents, changes, reloads, challenges, Effect}
 use Rattle.rules.specs.Record.{recordFound}
 use Rattle.rules.specs.Pins.{comparedAt}
 use Rattle.rules.specs.List.{listed, Role, role, Rule, ofFiles, ofCredentials, rule}
-use Rattle.rules.specs.Step.{checksOf, did, touched, effectBy, checks, effectOf, ruled, outcome, settled, step}
+use Rattle.rules.specs.Response.{fetchCount, fetches}
+use Rattle.rules.specs.Step.{checksOf, did, touched, effectBy, checks, effectOf, ruled, outcome, Stepped, settled, atOnce, step}
 use Rattle.rules.specs.Calls.{Order, fresh}
 use Rattle.rules.proofs.Good.{numbered, filled-back, marked-mark, at-which, zero-at, sound-good}
-use Rattle.demands.specs.Ledger.{Event, sent, resets, Kind, other, right, wrong, changed, reloaded, ended, Page, valueSet, wrongSince, isHeld, told, Ledger, page, tells, passes, kind, challenged, booked, entered, servable, next, tell, ledger}
+use Rattle.demands.specs.Ledger.{Event, sent, resets, Kind, other, right, wrong, changed, reloaded, ended, Page, valueSet, wrongSince, isHeld, told, Ledger, page, tells, passes, kind, kindIn, challenged, labelled, booked, isGetResponseIn, entered, servable, next, tell, ledger}
 use Rattle.demands.specs.Run.{World, world, called, run, Served, after}
 use Rattle.demands.specs.Follows.{ChallengeFollows}
 use Rattle.demands.proofs.Live.{Live, call-live, after-live, issue-fresh, command-is, reset-is}
 use Rattle.demands.proofs.Presented.{presented-is}
 use Rattle.demands.proofs.Labels.{Matches}
 use Rattle.demands.proofs.Rows.{kindOf, leftBy, Row, row}
+use Rattle.demands.proofs.Framing.{response-by-bytes, response-named}
+use Rattle.demands.proofs.Delivered.{at-once-response, Fetch, fetched-by, step-by}
 use Rattle.demands.proofs.Made.{outcome-labels}
 
 -- what each kind does to a credential
@@ -182,32 +186,77 @@ pub record Agree (c : Card) (l : Ledger) : Type 0 where
   pub logins-are : (w : Which) → login w c ≡ told (page w l)
   pub challenge-is : challenge c ≡ l .challenge
   pub labels-are : Matches (c .directory) (l .labels)
+  pub mode-is : mode c ≡ l .mode
 
 pub full : (c : Card) (area : List ℕ) → Live (world c area) → Full c
 full c area v = let g = sound-good c area (v .sound-card) in record { all-there = g .all-there; all-kept = g .all-kept }
 
-step-agrees : (c : Card) (l : Ledger) (area cmd random : List ℕ) → Live (world c area) → Agree c l
-    → Agree (step c area cmd random .card) (entered l (framed cmd) random)
-unfolding step settled
-step-agrees c l area cmd random v h =
-    let i = listed (framed cmd) in
-    let x = recordFound c area (framed cmd) in
-    record {
-      logins-are = λ w.
-          outcome-login c (full c area v) i x (framed cmd) random w
-          ∙ same-kind (role i) (logins c) (tells l) (challenge c) (l .challenge) w told-logins (h .challenge-is)
-          ∙ sym (tell-kind (kind (role i) (tells l) (l .challenge) (framed cmd) w) (page w l));
-      challenge-is = filled-back _ ∙ outcome-says c (full c area v) i x (framed cmd) random;
-      labels-are =
-          rw (← told-logins) (outcome-labels i c area (v .sound-card) (framed cmd) random (l .labels) (h .labels-are));
-    }
-  where
-    told-logins : logins c ≡ tells l
-    told-logins = fun-ext (h .logins-are)
+-- what the command at once leaves, and so what it leaves with other bytes waiting
+record Entered (c x : Card) (l : Ledger) (k : Command) (random : List ℕ) : Type 0 where
+  logins-are : (w : Which) → login w x ≡ told (booked (kindIn l k w) (page w l))
+  challenge-is : challenge x ≡ challenged (role (listed k)) k random
+  labels-are : Matches (x .directory) (labelled (role (listed k)) (tells l) (l .labels) k)
+  mode-is : mode x ≡ mode c
 
-    same-kind : (r : Role) (x y : Logins) (a b : List ℕ) (w : Which) → x ≡ y → a ≡ b
-        → act (kind r x a (framed cmd) w) (x w) ≡ act (kind r y b (framed cmd) w) (y w)
-    same-kind r x y a b w p q = ap (λ (z : Logins). act (kind r z a (framed cmd) w) (z w)) p ∙ ap (λ z. act (kind r y z (framed cmd) w) (y w)) q
+module _ (c : Card) (l : Ledger) (area cmd random : List ℕ) (v : Live (world c area)) (h : Agree c l) where
+  told-logins : logins c ≡ tells l
+  told-logins = fun-ext (h .logins-are)
+
+  same-kind : (r : Role) (x y : Logins) (a b : List ℕ) (w : Which) → x ≡ y → a ≡ b
+      → act (kind r x a (framed cmd) w) (x w) ≡ act (kind r y b (framed cmd) w) (y w)
+  same-kind r x y a b w p q = ap (λ (z : Logins). act (kind r z a (framed cmd) w) (z w)) p ∙ ap (λ z. act (kind r y z (framed cmd) w) (y w)) q
+
+  at-once-entered : Entered c (atOnce c area cmd random .card) l (framed cmd) random
+  unfolding atOnce settled
+  at-once-entered =
+      let i = listed (framed cmd) in
+      let x = recordFound c area (framed cmd) in
+      record {
+        logins-are = λ w.
+            outcome-login c (full c area v) i x (framed cmd) random w
+            ∙ same-kind (role i) (logins c) (tells l) (challenge c) (l .challenge) w told-logins (h .challenge-is)
+            ∙ sym (tell-kind (kind (role i) (tells l) (l .challenge) (framed cmd) w) (page w l));
+        challenge-is = filled-back _ ∙ outcome-says c (full c area v) i x (framed cmd) random;
+        labels-are =
+            rw (← told-logins) (outcome-labels i c area (v .sound-card) (framed cmd) random (l .labels) (h .labels-are));
+        mode-is = ap (λ (r : Response). r .mode) (at-once-response c area cmd random);
+      }
+
+  -- the ledger knows a GET RESPONSE by the mode and the bytes
+  test-told : isGetResponseIn (l .mode) (framed cmd) ≡ fetches c (framed cmd)
+  unfolding fetches
+  test-told = rw (← h .mode-is, response-by-bytes (framed cmd))
+
+  entered-agrees : (x : Card) → fetches c (framed cmd) ≡ false → Entered c x l (framed cmd) random → Agree x (entered l (framed cmd) random)
+  entered-agrees x q e = record {
+    logins-are = e .logins-are;
+    challenge-is = e .challenge-is ∙ rw (test-told ∙ q);
+    labels-are = e .labels-are;
+    mode-is = e .mode-is ∙ h .mode-is;
+  }
+
+  -- GET RESPONSE is nothing to credentials, challenge and files
+  fetched-agrees : Fetch c (framed cmd) → (r : Response) → r .mode ≡ mode c → Agree (withResponse c r) (entered l (framed cmd) random)
+  unfolding kind labelled fetches
+  fetched-agrees f r e =
+      let i = response-named (listed (framed cmd)) (f .by-name) in
+      let test : isGetResponseIn (l .mode) (framed cmd) ≡ true = test-told ∙ rw (f .in-mode-1, f .good-frame, f .by-name) in
+      record {
+        logins-are = λ w. rw i (h .logins-are w ∙ sym (tell-kind other (page w l)));
+        challenge-is = h .challenge-is ∙ rw test;
+        labels-are = rw i (h .labels-are);
+        mode-is = e ∙ h .mode-is;
+      }
+
+  step-agrees : Agree (step c area cmd random .card) (entered l (framed cmd) random)
+  step-agrees =
+      let n = at-once-entered in
+      step-by (λ (s : Stepped). Agree (s .card) (entered l (framed cmd) random)) c area cmd random
+      (λ f. fetched-by (λ (s : Stepped). Agree (s .card) (entered l (framed cmd) random)) c area (framed cmd)
+      (λ p. fetched-agrees f (responseOf (mode c) (take responseSize (drop (fetchCount (length (waiting c)) (framed cmd)) (waiting c)))) refl) (λ sw. fetched-agrees f (c .response) refl))
+      (λ m q. entered-agrees (withWaiting (atOnce c area cmd random .card) (atOnce c area cmd random .bytes)) q
+      (record { logins-are = n .logins-are; challenge-is = n .challenge-is; labels-are = n .labels-are; mode-is = n .mode-is }))
+      (λ m q. entered-agrees (atOnce c area cmd random .card) q n)
 
 call-agrees : (w : World) (l : Ledger) (e : Event) → Live w → Agree (w .card) l → Agree (called w e .card) (next l e)
 call-agrees w l (sent cmd random reply) v h =
@@ -224,6 +273,7 @@ call-agrees w l resets v h =
       logins-are = λ x. rw (zero-at (numberOf x) howMany) (ap (act ended) (h .logins-are x) ∙ sym (tell-kind ended (page x l)));
       challenge-is = refl;
       labels-are = h .labels-are;
+      mode-is = h .mode-is;
     })
 
 run-agrees : (w : World) (l : Ledger) (es : List Event) → Live w → Agree (w .card) l → Agree (run w es .card) (tell l es)
@@ -235,16 +285,31 @@ fresh-agrees : (o : Order) → Agree (fresh o) (ledger o [])
 unfolding ledger tell valueSet wrongSince isHeld
 fresh-agrees o = record {
   logins-are = λ w.
-      let e : o w .limit - 0 ≡ o w .limit = omega arith in
-      rw (at-which (λ v. credentialOf (o v .value) (full-tries (o v .limit))) w, zero-at (numberOf w) howMany, e, filled-back (o w .value));
+      let e : o .given w .limit - 0 ≡ o .given w .limit = omega arith in
+      rw (at-which (λ v. credentialOf (o .given v .value) (full-tries (o .given v .limit))) w, zero-at (numberOf w) howMany, e, filled-back (o .given w .value));
   challenge-is = refl;
   labels-are = record { count-is = refl; each-is = tt };
+  mode-is = refl;
 }
 
 pub follows : (o : Order) (area : List ℕ) (es : List Event) → Served o area → Agree (after o area es .card) (ledger o es)
 unfolding after ledger run tell
 follows o area es h =
     run-agrees _ _ es (after-live o area [] h) (rw (issue-fresh o area h) (fresh-agrees o))
+
+-- the ledger's mode is that of the issue
+tell-mode : (l : Ledger) (es : List Event) → tell l es .mode ≡ l .mode
+unfolding tell
+tell-mode l [] = refl
+tell-mode l (e ∷ es) = tell-mode (next l e) es ∙ next-mode e
+  where
+    next-mode : (e : Event) → next l e .mode ≡ l .mode
+    next-mode (sent cmd random reply) = split (λ (x : Ledger). x .mode ≡ l .mode) (servable random reply) (λ q. refl) (λ q. refl)
+    next-mode resets = refl
+
+pub ledger-mode : (o : Order) (es : List Event) → ledger o es .mode ≡ o .mode
+unfolding ledger
+ledger-mode o es = tell-mode _ es
 
 pub challenge-follows : ChallengeFollows
 challenge-follows o area es h = follows o area es h .challenge-is

@@ -3,7 +3,7 @@ use Prim.Native.Nat.{ℕ, _+_, _/_, _%_, _≤_}
 use mathlib.Core.Bool.{Bool, true, false, cond, _||_, not}
 use mathlib.Core.List.{List, [], _∷_, _++_}
 use mathlib.Core.Logic.{_⊎_, inl, inr, ⊎-elim, by-cases}
-use mathlib.Core.Path.{_≡_, refl, sym, ap, _∙_}
+use mathlib.Core.Path.{_≡_, refl, sym, ap, ap₂, _∙_}
 use native.Mathlib.Decide.{decLt}
 use native.Mathlib.Omega.{arith}
 use lib.ListN.{length}
@@ -12,14 +12,14 @@ use borrow.Author.Tests.{eqb-true, eqb-false, eq-eqb, ne-eqb, not-true}
 use Rattle.files.specs.declared.File.{File}
 use Rattle.files.specs.declared.Directory.{Directory}
 use Rattle.files.specs.State.{emptied}
-use Rattle.files.specs.Part.{over, zeros, splice}
+use Rattle.files.specs.Part.{part, over, zeros, splice}
 use Rattle.files.specs.Types.{size}
 use Rattle.files.specs.Rights.{never, adminBit, userBit, deviceBit, anyBit, asks, allHeld, grants, anyHeld, allowed}
 use Rattle.files.specs.Directory.{used, start, extent, isPlace, inArea}
 use Rattle.files.specs.Record.{bytesUsed}
 use Rattle.files.specs.Words.{isZero, two}
 use Rattle.files.specs.Create.{areaSize, created, creates}
-use Rattle.files.proofs.Checks.{each, both, split}
+use Rattle.files.proofs.Checks.{clash, each, both, split}
 use Rattle.files.proofs.Parts.{part-apart}
 use Rattle.files.proofs.Extents.{place-is, lies}
 use Rattle.files.proofs.Kept.{filed, lies-in-area}
@@ -28,14 +28,15 @@ use Rattle.rules.specs.declared.Card.{Card}
 use Rattle.rules.specs.declared.Ins.{Ins}
 use Rattle.rules.specs.declared.Ins.the-variants.{CreateFile}
 use Rattle.rules.specs.Words.{first, same, swBytes}
-use Rattle.rules.specs.State.{Which, device, admin, user, Login, login}
+use Rattle.rules.specs.State.{Which, device, admin, user, marked, Login, login, mode, waiting, withWaiting}
 use Rattle.rules.specs.Frame.{Command, framed, frameSw, classSw}
 use Rattle.rules.specs.Effect.{Deed, turns, shows, stores, appends, makes, Touch, nothing, presents, changes, reloads, challenges, Effect}
 use Rattle.rules.specs.Binary.{fileOf, opens}
 use Rattle.rules.specs.Record.{recordFound}
 use Rattle.rules.specs.Create.{fileGiven, createChecks}
-use Rattle.rules.specs.List.{listed, Role, role, rule}
-use Rattle.rules.specs.Step.{did, touched, checks, effectOf, ruled, outcome, settled, step}
+use Rattle.rules.specs.List.{listed, isGetResponse, Role, role, rule}
+use Rattle.rules.specs.Response.{waitSw, fetchCount, fetches}
+use Rattle.rules.specs.Step.{did, touched, checks, effectOf, ruled, outcome, Stepped, settled, atOnce, waits, delivered, gives, unchanged, fetchSw, fetched, step}
 use Rattle.rules.specs.Calls.{replySize, randomSize, answer, refused, served, command}
 use Rattle.rules.proofs.Checks.{one-of}
 use Rattle.rules.proofs.Good.{sound-good, sound-parted}
@@ -45,7 +46,8 @@ use Rattle.demands.specs.Run.{World, world, called, after}
 use Rattle.demands.specs.Files.{writesTo, readsFrom, labelOf, Labelled, FilesFollow, CreateAnswers, bitOf, OneHeld, Opens, Written, Read, Writes, Stays, Altered, AlikeBut, SameBut, Shown, Made, Makes, Created}
 use Rattle.demands.proofs.Labels.{label-size, each-at, create-same}
 use Rattle.demands.proofs.Rows.{Fair, by-rule}
-use Rattle.demands.proofs.Soundness.{leaves, step-sound}
+use Rattle.demands.proofs.Delivered.{fetched-by, step-by}
+use Rattle.demands.proofs.Soundness.{leaves, at-once-good}
 use Rattle.demands.proofs.Live.{Live, after-live, command-served, command-is, reset-is}
 use Rattle.demands.proofs.Follows.{Agree, follows}
 use Rattle.demands.proofs.Files.{By, Kept, Treats, compare-by, treats, treated-lengths}
@@ -115,9 +117,31 @@ module _ (c : Card) (area : List ℕ) (live : Live (world c area)) (l : Ledger) 
   }
 
   -- a right of a file is that of its label
-  right-told : (place : ℕ) → isPlace (c .directory) place ≡ true → (right : Label → ℕ) → opens c (right (labelOf (fileOf c place))) ≡ true
+  pub right-told : (place : ℕ) → isPlace (c .directory) place ≡ true → (right : Label → ℕ) → opens c (right (labelOf (fileOf c place))) ≡ true
       → Opens l (right (labelIn (l .labels) place))
   right-told place here right h = rw (← labels-told .label-is place here) (opens-told c l agree _ h)
+
+-- two steps that are the same but for a file's bytes
+pub record SameStep (place : ℕ) (a b : Stepped) : Type 0 where
+  pub card-is : a .card ≡ b .card
+  pub bytes-are : a .bytes ≡ b .bytes
+  pub sw-is : a .sw ≡ b .sw
+  pub areas : AlikeBut (a .card) place (a .area) (b .area)
+
+both-wait : (place : ℕ) (a b : Stepped) → SameStep place a b → SameStep place (waits a) (waits b)
+both-wait place a b k = record {
+  card-is = ap₂ withWaiting (k .card-is) (k .bytes-are);
+  bytes-are = refl;
+  sw-is = ap₂ (λ (d : List ℕ) (sw : ℕ). waitSw (length d) sw) (k .bytes-are) (k .sw-is);
+  areas = record { but-bytes = k .areas .but-bytes; lengths-are = k .areas .lengths-are };
+}
+
+both-served : (place : ℕ) (a b : Stepped) (reply : List ℕ) → SameStep place a b → SameBut place (served a reply) (served b reply)
+both-served place a b reply k = record {
+  answer-is = ap₂ (λ (x : Card) (d : List ℕ). answer 0 x (length d + 2)) (k .card-is) (k .bytes-are);
+  reply-is = ap₂ (λ (d : List ℕ) (sw : ℕ). over (d ++ swBytes sw) reply) (k .bytes-are) (k .sw-is);
+  areas = k .areas;
+}
 
 -- one served command
 module _ (c : Card) (area cmd random : List ℕ) (live : Live (world c area)) (place : ℕ) (here : isPlace (c .directory) place ≡ true) where
@@ -139,15 +163,13 @@ module _ (c : Card) (area cmd random : List ℕ) (live : Live (world c area)) (p
   fits : (bytes : List ℕ) → length bytes ≡ areaSize → e .into + length (e .stores) ≤ length bytes
   fits bytes q = rw q (leaves c area (live .sound-card) (framed cmd) random (listed (framed cmd)) .stored)
 
-  abbrev stepped : World
-  stepped = world (step c area cmd random .card) (step c area cmd random .area)
-
-  pub step-alters : length random ≡ randomSize → Stays (world c area) stepped place ⊎ By c place (writesTo r c (framed cmd)) (λ f. f .write)
-  unfolding step settled extent
-  step-alters l =
+  at-once-alters : length random ≡ randomSize
+      → Stays (world c area) (world (atOnce c area cmd random .card) (atOnce c area cmd random .area)) place ⊎ By c place (writesTo r c (framed cmd)) (λ f. f .write)
+  unfolding atOnce settled extent
+  at-once-alters l =
       ⊎-elim
       (λ (k : Kept c place e). inl (record {
-        there = place-named _ (sound-good _ _ (step-sound c area cmd random (live .sound-card) (live .size-is) l) .directory) place some (treated .there);
+        there = place-named _ (at-once-good c area cmd random (live .sound-card) l .directory) place some (treated .there);
         file-is = k .file-is;
         bytes-are =
             rw (treated .start-is, k .file-is)
@@ -155,22 +177,33 @@ module _ (c : Card) (area cmd random : List ℕ) (live : Live (world c area)) (p
       }))
       (λ q. inr (q .0)) (treated .kept)
 
+  -- what waits is nothing to the files, and GET RESPONSE leaves them
+  pub step-alters : length random ≡ randomSize
+      → Stays (world c area) (world (step c area cmd random .card) (step c area cmd random .area)) place ⊎ By c place (writesTo r c (framed cmd)) (λ f. f .write)
+  step-alters l =
+      step-by Left c area cmd random
+      (λ f. fetched-by Left c area (framed cmd) (λ q. inl (record { there = here; file-is = refl; bytes-are = refl }))
+      (λ sw. inl (record { there = here; file-is = refl; bytes-are = refl })))
+      (λ m f. ⊎-elim (λ k. inl (record { there = k .there; file-is = k .file-is; bytes-are = k .bytes-are })) inr (at-once-alters l))
+      (λ m f. at-once-alters l)
+    where
+      Left : Stepped → Type 0
+      Left s = Stays (world c area) (world (s .card) (s .area)) place ⊎ By c place (writesTo r c (framed cmd)) (λ f. f .write)
+
   -- on an area that differs in the file's bytes alone
   module _ (other : List ℕ) (alike : AlikeBut c place area other) where
     here-in : inArea (c .directory) place (length area) ≡ true
     here-in = lies-in-area (c .directory) area (sound-parted c area (live .sound-card)) place here
 
-    pub step-same : (reply : List ℕ)
-        → SameBut place (served (step c area cmd random) reply) (served (step c other cmd random) reply)
-        ⊎ By c place (readsFrom r c (framed cmd)) (λ f. f .read)
-    unfolding step settled
-    step-same reply =
+    at-once-same : SameStep place (atOnce c area cmd random) (atOnce c other cmd random) ⊎ By c place (readsFrom r c (framed cmd)) (λ f. f .read)
+    unfolding atOnce settled
+    at-once-same =
         rw (← found-same c area other place (live .sound-card) here alike (framed cmd))
         (⊎-elim
-        (λ a. let bytes = alike-part (start (c .directory) place) (size (fileOf c place)) area other (alike .but-bytes) (e .from) (e .shows) a in
-        inl (record {
-          answer-is = ap (λ z. answer 0 (step c area cmd random .card) (length (e .says ++ z) + 2)) bytes;
-          reply-is = ap (λ z. over ((e .says ++ z) ++ swBytes (e .sw)) reply) bytes;
+        (λ a. inl (record {
+          card-is = refl;
+          bytes-are = ap (λ z. e .says ++ z) (alike-part (start (c .directory) place) (size (fileOf c place)) area other (alike .but-bytes) (e .from) (e .shows) a);
+          sw-is = refl;
           areas = record {
             but-bytes =
                 rw (treated .start-is, treated .size-is)
@@ -181,6 +214,22 @@ module _ (c : Card) (area cmd random : List ℕ) (live : Live (world c area)) (p
           };
         }))
         inr (treated .hidden))
+
+    pub step-same : SameStep place (step c area cmd random) (step c other cmd random) ⊎ By c place (readsFrom r c (framed cmd)) (λ f. f .read)
+    unfolding step fetched
+    step-same = go (fetches c (framed cmd)) (marked (mode c))
+      where
+        both-fetched : (b : Bool) (n sw : ℕ) → SameStep place (cond b (gives c area n) (unchanged c area sw)) (cond b (gives c other n) (unchanged c other sw))
+        both-fetched true n sw = record { card-is = refl; bytes-are = refl; sw-is = refl; areas = record { but-bytes = alike .but-bytes; lengths-are = alike .lengths-are } }
+        both-fetched false n sw = record { card-is = refl; bytes-are = refl; sw-is = refl; areas = alike }
+
+        go : (b m : Bool)
+            → SameStep place (cond b (fetched c area (framed cmd)) (delivered m (atOnce c area cmd random)))
+            (cond b (fetched c other (framed cmd)) (delivered m (atOnce c other cmd random)))
+            ⊎ By c place (readsFrom r c (framed cmd)) (λ f. f .read)
+        go true m = inl (both-fetched (eqb (fetchSw c (framed cmd)) 0x9000) (fetchCount (length (waiting c)) (framed cmd)) (fetchSw c (framed cmd)))
+        go false true = ⊎-elim (λ k. inl (both-wait place (atOnce c area cmd random) (atOnce c other cmd random) k)) inr at-once-same
+        go false false = at-once-same
 
 module _ (c : Card) (area : List ℕ) (live : Live (world c area)) (l : Ledger) (agree : Agree c l) where
   -- the next call, and a file
@@ -208,8 +257,9 @@ module _ (c : Card) (area : List ℕ) (live : Live (world c area)) (l : Ledger) 
           (cond a (cond b (served (step c other cmd random) reply) (refused 3 c other reply)) (refused 1 c other reply))
           ⊎ Read c l cmd place
       go true true =
-          ⊎-elim inl (λ b. inr (record { addressed = b .0; by-right = right-told c area live l agree place here (λ x. x .read) (b .1) }))
-          (step-same c area cmd random live place here other alike reply)
+          ⊎-elim (λ k. inl (both-served place (step c area cmd random) (step c other cmd random) reply k))
+          (λ b. inr (record { addressed = b .0; by-right = right-told c area live l agree place here (λ x. x .read) (b .1) }))
+          (step-same c area cmd random live place here other alike)
       go true false = inl (record { answer-is = refl; reply-is = refl; areas = alike })
       go false b = inl (record { answer-is = refl; reply-is = refl; areas = alike })
 
@@ -221,10 +271,10 @@ ruled-sw : (sw : ℕ) (c : Card) (e : Effect) → e .sw ≡ 0x9000 → ruled sw 
 ruled-sw sw c e h = split (λ (x : Effect). x .sw ≡ sw) (eqb sw 0x9000) (λ q. h ∙ sym (eqb-true sw 0x9000 q)) (λ q. refl)
 
 -- what CREATE FILE asks of the card it asks of the ledger
-asked-told : (c : Card) (area : List ℕ) → Live (world c area) → (l : Ledger) → Agree c l → (cmd random : List ℕ) → listed (framed cmd) ≡ CreateFile
-    → step c area cmd random .sw ≡ createSw l (framed cmd)
-unfolding step settled outcome checks effectOf rule
-asked-told c area live l agree cmd random e =
+at-once-asked : (c : Card) (area : List ℕ) → Live (world c area) → (l : Ledger) → Agree c l → (cmd random : List ℕ) → listed (framed cmd) ≡ CreateFile
+    → atOnce c area cmd random .sw ≡ createSw l (framed cmd)
+unfolding atOnce settled outcome checks effectOf rule
+at-once-asked c area live l agree cmd random e =
     let k = framed cmd in
     let few = filed (c .directory) (sound-good c area (live .sound-card) .directory) .few in
     let asked = create-same c few (l .labels) (agree .labels-are) k in
@@ -232,6 +282,23 @@ asked-told c area live l agree cmd random e =
     rw e
     (ruled-sw (first (frameSw k ∷ classSw k ∷ first (createChecks c k) ∷ [])) c (did c (makes (fileGiven k))) refl
     ∙ ap (λ (t : List ℕ). first (frameSw k ∷ classSw k ∷ first t ∷ [])) (asked ∙ held))
+
+-- CREATE FILE replies no data
+no-data : (c : Card) (area cmd random : List ℕ) → listed (framed cmd) ≡ CreateFile → atOnce c area cmd random .bytes ≡ []
+unfolding atOnce settled outcome checks effectOf rule part
+no-data c area cmd random e =
+    rw e
+    (split (λ (x : Effect). x .says ++ part (x .from) (x .shows) area ≡ []) (eqb (first (frameSw (framed cmd) ∷ classSw (framed cmd) ∷ first (createChecks c (framed cmd)) ∷ [])) 0x9000) (λ q. refl) (λ q. refl))
+
+asked-told : (c : Card) (area : List ℕ) → Live (world c area) → (l : Ledger) → Agree c l → (cmd random : List ℕ) → listed (framed cmd) ≡ CreateFile
+    → step c area cmd random .sw ≡ createSw l (framed cmd)
+unfolding waitSw
+asked-told c area live l agree cmd random e =
+    let asked = at-once-asked c area live l agree cmd random e in
+    step-by (λ (s : Stepped). s .sw ≡ createSw l (framed cmd)) c area cmd random
+    (λ f. clash (isGetResponse (listed (framed cmd))) (f .by-name) (rw e refl))
+    (λ m f. ap (λ (d : List ℕ). waitSw (length d) (atOnce c area cmd random .sw)) (no-data c area cmd random e) ∙ asked)
+    (λ m f. asked)
 
 pub create-answers : CreateAnswers
 create-answers o area es h cmd random e = asked-told _ _ (after-live o area es h) (ledger o es) (follows o area es h) cmd random e
@@ -293,11 +360,11 @@ step-counts c area cmd random live =
     (λ t q. touch-counts i c area live (framed cmd) t random) (λ sw. inl refl)
 
 -- the step's card and area are those of its effect
-step-makes : (l : Ledger) (c : Card) (area cmd random : List ℕ) → Live (world c area) → Agree c l
-    → (step c area cmd random .card .directory .count ≡ c .directory .count)
-    ⊎ Made l (world c area) (world (step c area cmd random .card) (step c area cmd random .area)) cmd
-unfolding step settled bytesUsed
-step-makes l c area cmd random live agree =
+at-once-makes : (l : Ledger) (c : Card) (area cmd random : List ℕ) → Live (world c area) → Agree c l
+    → (atOnce c area cmd random .card .directory .count ≡ c .directory .count)
+    ⊎ Made l (world c area) (world (atOnce c area cmd random .card) (atOnce c area cmd random .area)) cmd
+unfolding atOnce settled bytesUsed
+at-once-makes l c area cmd random live agree =
     ⊎-elim inl
     (λ m. inr (record {
       by-create = m .by-create;
@@ -309,6 +376,27 @@ step-makes l c area cmd random live agree =
       none-used = ap (λ (f : File). two (f .used1) (f .used2)) (m .file-is .1 .0);
     }))
     (step-counts c area cmd random live)
+
+step-makes : (l : Ledger) (c : Card) (area cmd random : List ℕ) → Live (world c area) → Agree c l
+    → (step c area cmd random .card .directory .count ≡ c .directory .count)
+    ⊎ Made l (world c area) (world (step c area cmd random .card) (step c area cmd random .area)) cmd
+step-makes l c area cmd random live agree =
+    let made = at-once-makes l c area cmd random live agree in
+    step-by Counted c area cmd random
+    (λ f. fetched-by Counted c area (framed cmd) (λ q. inl refl) (λ sw. inl refl))
+    (λ m f. ⊎-elim inl (λ k. inr (record {
+      by-create = k .by-create;
+      device-held = k .device-held;
+      one-more = k .one-more;
+      label-is = k .label-is;
+      bytes-are = k .bytes-are;
+      none-held = k .none-held;
+      none-used = k .none-used;
+    })) made)
+    (λ m f. made)
+  where
+    Counted : Stepped → Type 0
+    Counted s = (s .card .directory .count ≡ c .directory .count) ⊎ Made l (world c area) (world (s .card) (s .area)) cmd
 
 pub files-created : Created
 files-created o area es h e = go e (after-live o area es h) (follows o area es h)

@@ -21,7 +21,7 @@ use Rattle.files.proofs.Served.{binary-fits}
 use Rattle.files.proofs.Kept.{filed}
 use Rattle.rules.specs.declared.Card.{Card}
 use Rattle.rules.specs.declared.Ins.{Ins}
-use Rattle.rules.specs.declared.Ins.the-variants.{Select, ReadBinary, UpdateBinary, ReadRecord, UpdateRecord, AppendRecord, Verify, Authenticate, ChangePin, ReloadPin, CreateFile, GetChallenge, Unlisted}
+use Rattle.rules.specs.declared.Ins.the-variants.{Select, ReadBinary, UpdateBinary, ReadRecord, UpdateRecord, AppendRecord, Verify, Authenticate, ChangePin, ReloadPin, CreateFile, GetChallenge, GetResponse, Unlisted}
 use Rattle.rules.specs.Words.{unless, first}
 use Rattle.rules.specs.State.{Which, admin, user, device, numberOf, Login, Logins, login, logins, challenge}
 use Rattle.rules.specs.Sound.{isKey, goodPin, goodChallenge, sound}
@@ -357,6 +357,12 @@ row GetChallenge = record {
   left-is = λ l ch k random. refl;
   labels-are = λ l made k. refl;
   fair = λ l ch k p. challenge-asked k p;
+}
+row GetResponse = record {
+  kind-is = λ l ch k w. either-way (passes (0x6D00 ∷ []) k) other;
+  left-is = λ l ch k random. either-way (passes (0x6D00 ∷ []) k) [];
+  labels-are = λ l made k. refl;
+  fair = λ l ch k p. tt;
 }
 row Unlisted = record {
   kind-is = λ l ch k w. either-way (passes (0x6D00 ∷ []) k) other;

@@ -2,47 +2,50 @@
 use Prim.Native.Nat.{ℕ, _+_, _-_, _≤_, _<_}
 use mathlib.Core.Bool.{true, false}
 use mathlib.Core.List.{List, [], _∷_, _++_, map}
-use mathlib.Core.Logic.{by-cases}
-use mathlib.Core.Path.{_≡_, refl, sym, _∙_}
+use mathlib.Core.Logic.{inl, by-cases}
+use mathlib.Core.Path.{_≡_, refl, sym, ap, _∙_}
 use native.Mathlib.Decide.{decLe}
 use native.Mathlib.Nat.{le-refl}
 use native.Mathlib.Omega.{arith}
-use lib.ListN.{length, length-append, length-take, length-drop, length-replicate}
+use lib.ListN.{length, drop, length-append, length-take, length-drop, length-replicate}
 use lib.Seq.{length-take-le}
 use borrow.Author.Tests.{eq-eqb}
 use Rattle.files.specs.declared.File.{File}
-use Rattle.files.specs.Words.{allBelow, isZero}
+use Rattle.files.specs.Words.{every, allBelow, isZero}
 use Rattle.files.specs.Part.{part, splice, over, zeros}
 use Rattle.files.specs.State.{emptied}
 use Rattle.files.specs.Directory.{start, extent, used}
 use Rattle.files.specs.Record.{partedFile}
 use Rattle.files.specs.Create.{areaSize, created}
 use Rattle.files.proofs.Parts.{splice-length}
-use Rattle.files.proofs.Checks.{each, split}
+use Rattle.files.proofs.Checks.{each, both, split}
 use Rattle.files.proofs.Extents.{file-set, used-is, place-is, lies}
 use Rattle.files.proofs.Appends.{cyclic-room}
 use Rattle.files.proofs.Making.{makes as made-in}
 use Rattle.files.proofs.Kept.{PartedIn, filed, sound-append, sound-created, new-parted, lies-in-area, place-parted, parted-none, parted-in}
 use Rattle.rules.specs.declared.Card.{Card}
 use Rattle.rules.specs.declared.Ins.{Ins}
+use Rattle.rules.specs.declared.Response.{Response}
 use Rattle.rules.specs.Words.{same, byte, swBytes}
 use Rattle.rules.specs.Tries.{goodLimit}
-use Rattle.rules.specs.State.{Which, numberOf, login, logins, blankCard, withCurrent, withValue}
-use Rattle.rules.specs.Sound.{isKey, goodPin, goodValue, soundValue, soundCredential, soundState, sound}
+use Rattle.rules.specs.State.{Which, whiches, numberOf, marked, login, logins, mode, waitCount, waiting, blankCard, withCurrent, withValue}
+use Rattle.rules.specs.Sound.{isKey, goodMode, goodPin, goodValue, soundValue, soundCredential, soundState, sound}
 use Rattle.rules.specs.Frame.{Command, framed}
 use Rattle.rules.specs.Effect.{Deed, turns, shows, stores, appends, makes, Touch, nothing, presents, changes, reloads, challenges, Effect, answers, storing}
 use Rattle.rules.specs.Binary.{fileOf}
 use Rattle.rules.specs.Record.{recordFound}
 use Rattle.rules.specs.Pins.{comparedAt}
 use Rattle.rules.specs.List.{listed, role}
-use Rattle.rules.specs.Step.{did, touched, outcome, settled, step}
+use Rattle.rules.specs.Response.{fetchCount}
+use Rattle.rules.specs.Step.{did, touched, outcome, Stepped, settled, atOnce, step}
 use Rattle.rules.specs.Calls.{Order, goodGiven, goodOrder, fresh, cleared, answer, refused, issued}
 use Rattle.demands.specs.Soundness.{Bytes, StepSound, CyclicRoom, StepArea, StepReply, CommandSound, CommandArea, CommandReply, CommandCount, CommandServed, ResetSound, ResetServed, IssueServed, IssueArea, BlankUnsound, CommandRefused, ResetRefused, IssueRefused}
 use Rattle.rules.proofs.Checks.{either}
 use Rattle.demands.proofs.Calls.{called-by, reset-by, issued-by}
-use Rattle.rules.proofs.Good.{Good, for-which, sound-good, sound-parted, sound-both, tried-full, tried-lowered, value-sound, sayable, said-short, placed, turned, tried-in, logged, valued, challenged, ended, made}
+use Rattle.rules.proofs.Good.{Good, for-which, sound-good, sound-parted, sound-both, tried-full, tried-lowered, value-sound, sayable, said-short, placed, turned, tried-in, logged, valued, challenged, responded, waited, ended, made}
 use Rattle.rules.proofs.Targets.{used-count, place-named, place-held, place-run}
 use Rattle.demands.proofs.Rows.{FairStore, Fair, FairTouch, by-rule}
+use Rattle.demands.proofs.Delivered.{at-once-response, fetched-by, step-by}
 use Rattle.demands.proofs.Files.{treats, treated-parted}
 
 -- what the effect of a command leaves: a sound card, whose new file is parted; a challenge said or nothing; what it shows and what it stores lie in the
@@ -144,6 +147,11 @@ module _ (c : Card) (area : List ℕ) (h : sound c area ≡ true) (k : Command) 
   pub leaves : (i : Ins) → Leaves c k random (outcome i c (recordFound c area k) k random)
   leaves i = by-rule (Leaves c k random) i c area h k random (deed-leaves i) touch-leaves (λ sw. leaves-card sw c g refl)
 
+-- Le is at most 256
+pub le-low : (cmd : List ℕ) → Bytes cmd → framed cmd .le ≤ 256
+unfolding framed
+le-low cmd b = split (λ n. n ≤ 256) (isZero (byte cmd 4)) (λ e. le-refl 256) (λ e. omega (arith, b 4))
+
 -- of one step: every file that was there stays parted, and so is a new one
 module _ (c : Card) (area cmd random : List ℕ) (h : sound c area ≡ true) (size-is : length area ≡ areaSize) where
   abbrev e : Effect
@@ -172,11 +180,41 @@ module _ (c : Card) (area cmd random : List ℕ) (h : sound c area ≡ true) (si
           treated-parted c area place (role (listed (framed cmd))) (framed cmd) e (treats c area h place some low (framed cmd) (listed (framed cmd)) random)
           (lies (c .directory) place (length area) here .fits) inside (place-parted (c .directory) area (sound-parted c area h) place named)
 
+-- of the command at once
+module _ (c : Card) (area cmd random : List ℕ) (h : sound c area ≡ true) where
+  pub at-once-good : length random ≡ 16 → Good (atOnce c area cmd random .card)
+  unfolding atOnce settled
+  at-once-good l = let e = leaves c area h (framed cmd) random (listed (framed cmd)) in challenged _ (e .card) _ (e .said l)
+
+  at-once-parted : length area ≡ areaSize → PartedIn (atOnce c area cmd random .card .directory) (atOnce c area cmd random .area)
+  unfolding atOnce settled
+  at-once-parted a = step-parted c area cmd random h a
+
+  at-once-area : length area ≡ areaSize → length (atOnce c area cmd random .area) ≡ length area
+  unfolding atOnce settled
+  at-once-area a = splice-length area _ _ (inside c area cmd random h a)
+
+  pub at-once-few : length random ≡ 16 → Bytes cmd → length (atOnce c area cmd random .bytes) ≤ 256
+  unfolding atOnce settled part
+  at-once-few l b =
+      let few = leaves c area h (framed cmd) random (listed (framed cmd)) .few l (le-low cmd b) in
+      simp (length-append, length-take) (omega (arith, few))
+
+-- at most 256 bytes wait
+pub waiting-few : (c : Card) → Good c → length (waiting c) ≤ 256
+waiting-few c g = omega (arith, length-take (waitCount (c .response)) (c .response .bytes), responded (c .response) (g .response) .few)
+
 pub step-sound : StepSound
-unfolding step settled
 step-sound c area cmd random h a l =
-    let e = leaves c area h (framed cmd) random (listed (framed cmd)) in
-    sound-both _ _ (challenged _ (e .card) _ (e .said l)) (step-parted c area cmd random h a)
+    let g = sound-good c area h in
+    let p = sound-parted c area h in
+    let now = at-once-good c area cmd random h l in
+    let parted = at-once-parted c area cmd random h a in
+    step-by (λ (s : Stepped). sound (s .card) (s .area) ≡ true) c area cmd random
+    (λ f. fetched-by (λ (s : Stepped). sound (s .card) (s .area) ≡ true) c area (framed cmd)
+    (λ q. sound-both _ area (waited c g (drop (fetchCount (length (waiting c)) (framed cmd)) (waiting c)) (inl (f .in-mode-1))) p) (λ sw. h))
+    (λ m f. sound-both _ _ (waited (atOnce c area cmd random .card) now (atOnce c area cmd random .bytes) (inl (ap (λ (r : Response). marked (r .mode)) (at-once-response c area cmd random) ∙ m))) parted)
+    (λ m f. sound-both _ _ now parted)
 
 pub cyclic-has-room : CyclicRoom
 cyclic-has-room c area place n h here k r =
@@ -185,19 +223,18 @@ cyclic-has-room c area place n h here k r =
     cyclic-room (fileOf c place) n (eq-eqb _ _ k) (place-held (c .directory) d place (w .0) (rw (← used-count (c .directory) d) (w .1))) r
 
 pub step-area : StepArea
-unfolding step settled
-step-area c area cmd random h a = splice-length area _ _ (inside c area cmd random h a)
-
--- Le is at most 256
-pub le-low : (cmd : List ℕ) → Bytes cmd → framed cmd .le ≤ 256
-unfolding framed
-le-low cmd b = split (λ n. n ≤ 256) (isZero (byte cmd 4)) (λ e. le-refl 256) (λ e. omega (arith, b 4))
+step-area c area cmd random h a =
+    step-by (λ (s : Stepped). length (s .area) ≡ length area) c area cmd random
+    (λ f. fetched-by (λ (s : Stepped). length (s .area) ≡ length area) c area (framed cmd) (λ q. refl) (λ sw. refl))
+    (λ m f. at-once-area c area cmd random h a) (λ m f. at-once-area c area cmd random h a)
 
 pub step-reply : StepReply
-unfolding step settled part
 step-reply c area cmd random h l b =
-    let few = leaves c area h (framed cmd) random (listed (framed cmd)) .few l (le-low cmd b) in
-    simp (length-append, length-take) (omega (arith, few))
+    let w = waiting-few c (sound-good c area h) in
+    step-by (λ (s : Stepped). length (s .bytes) + 2 ≤ 258) c area cmd random
+    (λ f. fetched-by (λ (s : Stepped). length (s .bytes) + 2 ≤ 258) c area (framed cmd)
+    (λ q. omega (arith, w, length-take (fetchCount (length (waiting c)) (framed cmd)) (waiting c))) (λ sw. omega arith))
+    (λ m f. omega arith) (λ m f. omega (arith, at-once-few c area cmd random h l b))
 
 over-length : (bytes buffer : List ℕ) → length bytes ≤ length buffer → length (over bytes buffer) ≡ length buffer
 unfolding over
@@ -245,16 +282,21 @@ reset-served c area =
 pub reset-refused : ResetRefused
 reset-refused c area = reset-by (λ a. (a .outcome ≡ 0 → ⊥) → a ≡ answer (a .outcome) c 0) c area (λ z e q. absurd (q refl)) (λ o n q. refl)
 
--- each of the order's credentials
-given-good : (o : Order) → goodOrder o ≡ true → (w : Which) → goodGiven (numberOf w) (o w) ≡ true
+-- all of the order's credentials, and its mode
+order-good : (o : Order) → goodOrder o ≡ true → (every (map (λ w. goodGiven (numberOf w) (o .given w)) whiches) ≡ true) × (goodMode (o .mode) ≡ true)
 unfolding goodOrder
-given-good o h w = for-which (λ v. goodGiven (numberOf v) (o v)) h w
+order-good o h = both (every (map (λ w. goodGiven (numberOf w) (o .given w)) whiches)) (goodMode (o .mode)) h
+
+-- each of the order's credentials
+given-good : (o : Order) → goodOrder o ≡ true → (w : Which) → goodGiven (numberOf w) (o .given w) ≡ true
+given-good o h w = for-which (λ v. goodGiven (numberOf v) (o .given v)) (order-good o h .0) w
 
 fresh-good : (o : Order) → goodOrder o ≡ true → Good (fresh o)
 fresh-good o h =
-    made _
-    (λ w. let e = each (goodValue (numberOf w) (o w .value) ∷ goodLimit (o w .limit) ∷ []) (given-good o h w) in
-    record { value = value-sound (o w .value) (numberOf w) (e .0) _; tries = tried-full (o w .limit) false (e .1); low = omega arith })
+    made _ (o .mode)
+    (λ w. let e = each (goodValue (numberOf w) (o .given w .value) ∷ goodLimit (o .given w .limit) ∷ []) (given-good o h w) in
+    record { value = value-sound (o .given w .value) (numberOf w) (e .0) _; tries = tried-full (o .given w .limit) false (e .1); low = omega arith })
+    (order-good o h .1)
 
 pub issue-served : IssueServed
 issue-served o area =

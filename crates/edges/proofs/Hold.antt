@@ -19,7 +19,7 @@ use Rattle.files.specs.Walk.{stands, past, walk, parted, standing}
 use Rattle.files.specs.Create.{goodContents, sfiUnused, room, created}
 use Rattle.files.specs.Sound.{soundFile, unusedPlace, sfisDiffer, soundDirectory, partedArea}
 use Rattle.rules.specs.Words.{orElse, allOf, same}
-use Rattle.rules.specs.Sound.{goodPin, goodValue, soundValue, soundTries, soundCredential, soundChallenge, soundState, sound}
+use Rattle.rules.specs.Sound.{goodPin, goodValue, soundValue, soundTries, soundCredential, soundChallenge, soundResponse, soundState, sound}
 use Rattle.rules.specs.Frame.{caseOf, framed}
 use Rattle.rules.specs.List.{rows, find, listed, rule}
 use Rattle.rules.specs.Select.{selectChecks}
@@ -28,7 +28,8 @@ use Rattle.rules.specs.Record.{recordFound, readRecordChecks, updateRecordCheck
 use Rattle.rules.specs.Pins.{comparedAt, verifyChecks, changeChecks, reloadChecks}
 use Rattle.rules.specs.Device.{authenticateChecks, getChallengeChecks}
 use Rattle.rules.specs.Create.{fileGiven, createChecks}
-use Rattle.rules.specs.Step.{checks, effectOf, outcome, settled, step}
+use Rattle.rules.specs.Response.{waitSw, getResponseChecks, fetches}
+use Rattle.rules.specs.Step.{checks, effectOf, outcome, settled, atOnce, fetched, step}
 use Rattle.rules.specs.Calls.{command, reset, goodOrder, issue}
 use Rattle.edges.specs.Table.{Edge, allHold}
 use Rattle.edges.specs.Starred.{starred}
@@ -43,6 +44,7 @@ use Rattle.edges.specs.Device.{devices}
 use Rattle.edges.specs.Create.{creating}
 use Rattle.edges.specs.Calls.{calls}
 use Rattle.edges.specs.Sound.{credentials, directories, sessions}
+use Rattle.edges.specs.Response.{fetching, discarding, modes, responses, login-fetched}
 use Rattle.edges.specs.Login.{login}
 use Rattle.edges.specs.FrameRanges.{class-bytes, ins-bytes, frame-lengths}
 use Rattle.edges.specs.ParameterRanges.{p-of-files, p-of-credentials, sfis}
@@ -52,12 +54,13 @@ use Rattle.edges.specs.RightsRanges.{rights-created, rights-asked, right
 use Rattle.edges.specs.PinRanges.{pin-digits, pin-tries, orders, staying}
 use Rattle.edges.specs.LoginRanges.{cryptograms, login-of-4, login-of-8}
 use Rattle.edges.specs.NoteRanges.{note-lengths, note-reads, ends}
-use Rattle.edges.specs.Unsound.{unsound-credentials, unsound-directories, unsound-sessions, sound-cards}
+use Rattle.edges.specs.ResponseRanges.{waiting-counts, fetch-les, fetch-counts, cuts, response-bytes, response-frames, both-modes, sound-responses, response-places, issue-modes}
+use Rattle.edges.specs.Unsound.{unsound-credentials, unsound-directories, unsound-sessions, unsound-responses, sound-cards}
 use Rattle.edges.specs.Edges.{edges, EachHolds}
 
 -- whether rows hold, by computation: to unfold this is to unfold every rule that a row may need
 computed : List Edge → Bool
-unfolding xPower square squares inverse sbox mixColumn expanded keyExpansion roundKey fullRound lastRound rounds cipher aes128 allBelow part splice over count recordLength size goodShape allHeld anyHeld allowed goodRights used startAt extent isPlace inArea seek findFid findSfi back next bytesUsed placesHeld placeOf recordsHeld startOf lengthOf located locatedIn nextPlace nextStart entry appended soundHeld soundUsed partedFile isRecord hasRoom stands past walk parted standing goodContents sfiUnused room created soundFile unusedPlace sfisDiffer soundDirectory partedArea orElse allOf same goodPin goodValue soundValue soundTries soundCredential soundChallenge soundState sound caseOf framed rows find listed rule selectChecks target readCount readBinaryChecks updateBinaryChecks recordFound readRecordChecks updateRecordChecks appendChecks comparedAt verifyChecks changeChecks reloadChecks authenticateChecks getChallengeChecks fileGiven createChecks checks effectOf outcome settled step command reset goodOrder issue
+unfolding xPower square squares inverse sbox mixColumn expanded keyExpansion roundKey fullRound lastRound rounds cipher aes128 allBelow part splice over count recordLength size goodShape allHeld anyHeld allowed goodRights used startAt extent isPlace inArea seek findFid findSfi back next bytesUsed placesHeld placeOf recordsHeld startOf lengthOf located locatedIn nextPlace nextStart entry appended soundHeld soundUsed partedFile isRecord hasRoom stands past walk parted standing goodContents sfiUnused room created soundFile unusedPlace sfisDiffer soundDirectory partedArea orElse allOf same goodPin goodValue soundValue soundTries soundCredential soundChallenge soundResponse soundState sound caseOf framed rows find listed rule selectChecks target readCount readBinaryChecks updateBinaryChecks recordFound readRecordChecks updateRecordChecks appendChecks comparedAt verifyChecks changeChecks reloadChecks authenticateChecks getChallengeChecks fileGiven createChecks waitSw getResponseChecks fetches checks effectOf outcome settled atOnce fetched step command reset goodOrder issue
 computed = allHold
 
 pub starred-hold : allHold starred ≡ true
@@ -116,9 +119,29 @@ pub sessions-hold : allHold sessions ≡ true
 unfolding computed
 sessions-hold = refl
 
+pub fetching-hold : allHold fetching ≡ true
+unfolding computed
+fetching-hold = refl
+
+pub discarding-hold : allHold discarding ≡ true
+unfolding computed
+discarding-hold = refl
+
+pub modes-hold : allHold modes ≡ true
+unfolding computed
+modes-hold = refl
+
+pub responses-hold : allHold responses ≡ true
+unfolding computed
+responses-hold = refl
+
 pub login-hold : allHold login ≡ true
 unfolding computed
 login-hold = refl
+
+pub login-fetched-hold : allHold login-fetched ≡ true
+unfolding computed
+login-fetched-hold = refl
 
 pub class-bytes-hold : allHold class-bytes ≡ true
 unfolding computed
@@ -208,6 +231,46 @@ pub ends-hold : allHold ends ≡ true
 unfolding computed
 ends-hold = refl
 
+pub waiting-counts-hold : allHold waiting-counts ≡ true
+unfolding computed
+waiting-counts-hold = refl
+
+pub fetch-les-hold : allHold fetch-les ≡ true
+unfolding computed
+fetch-les-hold = refl
+
+pub fetch-counts-hold : allHold fetch-counts ≡ true
+unfolding computed
+fetch-counts-hold = refl
+
+pub cuts-hold : allHold cuts ≡ true
+unfolding computed
+cuts-hold = refl
+
+pub response-bytes-hold : allHold response-bytes ≡ true
+unfolding computed
+response-bytes-hold = refl
+
+pub response-frames-hold : allHold response-frames ≡ true
+unfolding computed
+response-frames-hold = refl
+
+pub both-modes-hold : allHold both-modes ≡ true
+unfolding computed
+both-modes-hold = refl
+
+pub sound-responses-hold : allHold sound-responses ≡ true
+unfolding computed
+sound-responses-hold = refl
+
+pub response-places-hold : allHold response-places ≡ true
+unfolding computed
+response-places-hold = refl
+
+pub issue-modes-hold : allHold issue-modes ≡ true
+unfolding computed
+issue-modes-hold = refl
+
 pub unsound-credentials-hold : allHold unsound-credentials ≡ true
 unfolding computed
 unsound-credentials-hold = refl
@@ -220,10 +283,14 @@ pub unsound-sessions-hold : allHold unsound-sessions ≡ true
 unfolding computed
 unsound-sessions-hold = refl
 
+pub unsound-responses-hold : allHold unsound-responses ≡ true
+unfolding computed
+unsound-responses-hold = refl
+
 pub sound-cards-hold : allHold sound-cards ≡ true
 unfolding computed
 sound-cards-hold = refl
 
 pub edges-hold : EachHolds edges
 edges-hold =
-    (starred-hold, (framing-hold, (selecting-hold, (binaries-hold, (recording-hold, (variables-hold, (holding-rights-hold, (pins-hold, (devices-hold, (creating-hold, (calls-hold, (credentials-hold, (directories-hold, (sessions-hold, (login-hold, (class-bytes-hold, (ins-bytes-hold, (frame-lengths-hold, (p-of-files-hold, (p-of-credentials-hold, (sfis-hold, (lc-bytes-hold, (le-bytes-hold, (offsets-hold, (rights-created-hold, (rights-asked-hold, (rights-table-hold, (pin-digits-hold, (pin-tries-hold, (orders-hold, (staying-hold, (cryptograms-hold, (login-of-4-hold, (login-of-8-hold, (note-lengths-hold, (note-reads-hold, (ends-hold, (unsound-credentials-hold, (unsound-directories-hold, (unsound-sessions-hold, (sound-cards-hold, tt)))))))))))))))))))))))))))))))))))))))))
+    (starred-hold, (framing-hold, (selecting-hold, (binaries-hold, (recording-hold, (variables-hold, (holding-rights-hold, (pins-hold, (devices-hold, (creating-hold, (calls-hold, (credentials-hold, (directories-hold, (sessions-hold, (fetching-hold, (discarding-hold, (modes-hold, (responses-hold, (login-hold, (login-fetched-hold, (class-bytes-hold, (ins-bytes-hold, (frame-lengths-hold, (p-of-files-hold, (p-of-credentials-hold, (sfis-hold, (lc-bytes-hold, (le-bytes-hold, (offsets-hold, (rights-created-hold, (rights-asked-hold, (rights-table-hold, (pin-digits-hold, (pin-tries-hold, (orders-hold, (staying-hold, (cryptograms-hold, (login-of-4-hold, (login-of-8-hold, (note-lengths-hold, (note-reads-hold, (ends-hold, (waiting-counts-hold, (fetch-les-hold, (fetch-counts-hold, (cuts-hold, (response-bytes-hold, (response-frames-hold, (both-modes-hold, (sound-responses-hold, (response-places-hold, (issue-modes-hold, (unsound-credentials-hold, (unsound-directories-hold, (unsound-sessions-hold, (unsound-responses-hold, (sound-cards-hold, tt)))))))))))))))))))))))))))))))))))))))))))))))))))))))))

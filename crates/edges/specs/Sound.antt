@@ -114,7 +114,7 @@ good-logins w =
 
 -- three credentials
 abbrev pub keeping : List Credential → Card
-keeping xs = record { credentials = xs; directory = plain .directory; session = plain .session }
+keeping xs = record { credentials = xs; directory = plain .directory; session = plain .session; response = plain .response }
 
 abbrev pub bad-counts : List Card
 bad-counts =

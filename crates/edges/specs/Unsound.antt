@@ -1,4 +1,4 @@
--- Cards that are not sound, through the calls: each card of `Sound` and `Variable` with one thing wrong is refused by 4, by a command that is served
+-- Cards that are not sound, through the calls: each card of `Sound`, `Variable` and `Response` with one thing wrong is refused by 4, by a command that is served
 -- otherwise and by a reset, and card, area and reply are as they were; each card at the edge is served.
 use mathlib.Core.List.{List, [], _∷_, _++_}
 use Rattle.rules.specs.declared.Card.{Card}
@@ -6,6 +6,7 @@ use Rattle.rules.specs.State.{device, admin, user}
 use Rattle.edges.specs.Table.{Edge, again, unserved, unreset, called, filler, line}
 use Rattle.edges.specs.Sound.{with-admin, with-user, bad-keys, good-keys, bad-pins, good-pins, bad-logins, good-logins, bad-counts, bad-files, bad-places, good-files, bad-sessions, good-sessions}
 use Rattle.edges.specs.Variable.{unsound-notes, sound-notes}
+use Rattle.edges.specs.Response.{bad-responses, good-responses}
 
 abbrev pub refused-by-4 : List Card → List Edge
 refused-by-4 [] = []
@@ -26,7 +27,10 @@ unsound-directories = refused-by-4 (bad-files ++ bad-places ++ unsound-notes)
 abbrev pub unsound-sessions : List Edge
 unsound-sessions = refused-by-4 bad-sessions
 
+abbrev pub unsound-responses : List Edge
+unsound-responses = refused-by-4 bad-responses
+
 abbrev pub sound-cards : List Edge
 sound-cards =
     served-both
-    (good-keys ++ good-pins with-admin ++ good-pins with-user ++ good-logins device ++ good-logins admin ++ good-logins user ++ good-files ++ good-sessions ++ sound-notes)
+    (good-keys ++ good-pins with-admin ++ good-pins with-user ++ good-logins device ++ good-logins admin ++ good-logins user ++ good-files ++ good-sessions ++ sound-notes ++ good-responses)

@@ -15,7 +15,7 @@ use texts::calls::from_text;
 use texts::calls::to_text;
 
 // No function of the language says how large a value is; the contract does.
-const CARD_SIZE: usize = 255;
+const CARD_SIZE: usize = 514;
 
 // The bytes that a card takes.
 #[no_mangle]
@@ -30,7 +30,7 @@ pub extern "C" fn limpet_card_size() -> usize
 pub extern "C" fn limpet_version() -> u32
     ensures { λ r. ⌜ r ≡ version ⌝ }
 {
-    7
+    8
 }
 
 // One block of AES-128.
@@ -52,8 +52,9 @@ pub extern "C" fn limpet_issue(
     admin_limit: u16,
     user_pin: &[u8],
     user_limit: u16,
+    mode: u16,
 ) -> u8
-    ensures { λ r. ⌜ PlacesIssue (issue (orderOf (now (key .entry)) «device_limit» (now («admin_pin» .entry)) «admin_limit» (now («user_pin» .entry)) «user_limit») (now (area .entry))) r (now (card .exit)) (now (area .exit)) ⌝ }
+    ensures { λ r. ⌜ PlacesIssue (issue (orderOf (now (key .entry)) «device_limit» (now («admin_pin» .entry)) «admin_limit» (now («user_pin» .entry)) «user_limit» mode) (now (area .entry))) r (now (card .exit)) (now (area .exit)) ⌝ }
 {
     let issued = issue(
         area,
@@ -63,6 +64,7 @@ pub extern "C" fn limpet_issue(
         admin_limit,
         user_pin,
         user_limit,
+        mode,
     );
     *card = issued.card;
     issued.outcome

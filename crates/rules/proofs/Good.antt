@@ -1,29 +1,30 @@
 -- What a sound state tells, part by part, and that each setter of the card leaves a sound state where the new part is sound.
-use Prim.Native.Nat.{ℕ, zero, suc, _≤_, _<_}
+use Prim.Native.Nat.{ℕ, zero, suc, _*_, _+_, _/_, _%_, _≤_, _<_}
 use mathlib.Core.Bool.{Bool, true, false, cond, _||_, not}
 use mathlib.Core.List.{List, [], _∷_, map}
-use mathlib.Core.Logic.{by-cases}
+use mathlib.Core.Logic.{_⊎_, inl, inr, ⊎-elim, by-cases}
 use mathlib.Core.Path.{_≡_, refl, sym, ap, subst, _∙_}
 use native.Mathlib.Decide.{ℕ-discrete}
 use native.Mathlib.Nat.{le-refl}
 use native.Mathlib.Omega.{arith}
-use lib.ListN.{length, take, drop, getD, set, List·getD-map, length-append, length-drop, length-replicate, length-set}
-use lib.Seq.{take-at, drop-at, getD-set-same, getD-set-other}
+use lib.ListN.{length, take, drop, getD, set, List·getD-map, length-take, length-append, length-drop, length-replicate, length-set}
+use lib.Seq.{take-at, take-all, drop-at, getD-set-same, getD-set-other}
 use lib.Dec.{eqb, leb}
 use borrow.Author.Tests.{eqb-true, leb-true, le-leb, eq-eqb}
 use Rattle.files.specs.declared.Directory.{Directory}
-use Rattle.files.specs.Words.{every, allBelow, isZero}
+use Rattle.files.specs.Words.{every, allBelow, isZero, two}
 use Rattle.files.specs.Part.{over, zeros}
 use Rattle.files.specs.Sound.{soundDirectory, partedArea}
 use Rattle.files.proofs.Checks.{each, all, both, below, all-below}
 use Rattle.files.proofs.Kept.{PartedIn, parted-in, is-parted-in, sound-none}
 use Rattle.rules.specs.declared.Tries.{Tries}
 use Rattle.rules.specs.declared.Credential.{Credential}
+use Rattle.rules.specs.declared.Response.{Response}
 use Rattle.rules.specs.declared.Card.{Card}
-use Rattle.rules.specs.Words.{allOf, filled}
+use Rattle.rules.specs.Words.{allOf, filled, filledTo}
 use Rattle.rules.specs.Tries.{goodLimit, full, lowered}
-use Rattle.rules.specs.State.{Which, device, admin, user, whiches, numberOf, howMany, mark, marked, noCredential, credential, rightKept, valueOf, login, credentialOf, withTries, newCard, withSession, noSession, withCurrent, withChallenge, withDirectory, withCredential, withRights, withLogin, withValue}
-use Rattle.rules.specs.Sound.{digit, goodLength, goodPin, isKey, goodValue, soundValue, soundTries, soundCredential, soundAt, goodChallenge, soundChallenge, soundState, sound}
+use Rattle.rules.specs.State.{Which, device, admin, user, whiches, numberOf, howMany, mark, marked, noCredential, credential, rightKept, valueOf, login, credentialOf, withTries, newCard, withSession, noSession, withCurrent, withChallenge, withDirectory, withCredential, withRights, withLogin, withValue, mode, responseSize, waitCount, waiting, responseOf, withResponse, withWaiting}
+use Rattle.rules.specs.Sound.{digit, goodLength, goodPin, isKey, goodValue, soundValue, soundTries, soundCredential, soundAt, goodChallenge, soundChallenge, goodMode, soundResponse, soundState, sound}
 use Rattle.rules.proofs.Checks.{every-at, one-of, either}
 
 -- tries and right of a credential
@@ -45,6 +46,7 @@ pub record Good (c : Card) : Type 0 where
   pub directory : soundDirectory (c .directory) ≡ true
   pub current : c .session .current ≤ c .directory .count
   pub challenge : soundChallenge (c .session) ≡ true
+  pub response : soundResponse (c .response) ≡ true
 
 abbrev triesList : Tries → Bool → List Bool
 triesList t held = goodLimit (t .limit) ∷ leb (t .left) (t .limit) ∷ (not held || eqb (t .left) (t .limit)) ∷ []
@@ -79,6 +81,7 @@ soundList c =
     ∷ soundDirectory (c .directory)
     ∷ leb (c .session .current) (c .directory .count)
     ∷ soundChallenge (c .session)
+    ∷ soundResponse (c .response)
     ∷ []
 
 pub good : (c : Card) → soundState c ≡ true → Good c
@@ -91,7 +94,8 @@ good c h =
       credited = λ n l. credit n (credential c n) (rightKept c n) (below (soundAt c) howMany (e .1 .1 .0) n l);
       directory = e .1 .1 .1 .0;
       current = leb-true _ _ (e .1 .1 .1 .1 .0);
-      challenge = e .1 .1 .1 .1 .1;
+      challenge = e .1 .1 .1 .1 .1 .0;
+      response = e .1 .1 .1 .1 .1 .1;
     }
 
 pub is-sound : (c : Card) → Good c → soundState c ≡ true
@@ -99,7 +103,7 @@ unfolding soundState
 is-sound c g =
     let t = all-below (soundAt c) howMany (λ n l. is-credit n (credential c n) (rightKept c n) (g .credited n l)) in
     all (soundList c)
-    (eq-eqb _ _ (g .all-there), (eq-eqb _ _ (g .all-kept), (t, (g .directory, (le-leb _ _ (g .current), g .challenge)))))
+    (eq-eqb _ _ (g .all-there), (eq-eqb _ _ (g .all-kept), (t, (g .directory, (le-leb _ _ (g .current), (g .challenge, g .response))))))
 
 -- a sound card with its area: the state, and the files parted
 pub sound-good : (c : Card) (area : List ℕ) → sound c area ≡ true → Good c
@@ -154,18 +158,28 @@ zeros-zero zero (suc m) = zeros-zero zero m
 zeros-zero (suc n) zero = refl
 zeros-zero (suc n) (suc m) = zeros-zero n m
 
+module _ (size : ℕ) (d : List ℕ) where
+  pub filled-to-length : length d ≤ size → length (filledTo size d) ≡ size
+  unfolding over
+  filled-to-length h = simp (length-append, length-drop, length-replicate) (omega arith)
+
+  pub filled-to-back : take (length d) (filledTo size d) ≡ d
+  unfolding over
+  filled-to-back = take-at d (drop (length d) (zeros size)) (length d) refl
+
+  filled-to-zeros : allOf isZero (drop (length d) (filledTo size d)) ≡ true
+  unfolding over
+  filled-to-zeros = rw (drop-at d (drop (length d) (zeros size)) (length d) refl) (zeros-zero (length d) size)
+
 module _ (d : List ℕ) where
   pub filled-length : length d ≤ 16 → length (filled d) ≡ 16
-  unfolding over
-  filled-length h = simp (length-append, length-drop, length-replicate) (omega arith)
+  filled-length h = filled-to-length 16 d h
 
   pub filled-back : take (length d) (filled d) ≡ d
-  unfolding over
-  filled-back = take-at d (drop (length d) (zeros 16)) (length d) refl
+  filled-back = filled-to-back 16 d
 
   filled-zeros : allOf isZero (drop (length d) (filled d)) ≡ true
-  unfolding over
-  filled-zeros = rw (drop-at d (drop (length d) (zeros 16)) (length d) refl) (zeros-zero (length d) 16)
+  filled-zeros = filled-to-zeros 16 d
 
   pub pin-short : goodPin d ≡ true → length d ≤ 16
   unfolding goodPin
@@ -185,6 +199,51 @@ module _ (d : List ℕ) where
     value-sound t =
         all (eqb (length (filled d)) 16 ∷ leb (length d) 16 ∷ goodValue n (take (length d) (filled d)) ∷ allOf isZero (drop (length d) (filled d)) ∷ [])
         (eq-eqb _ _ (filled-length value-short), (le-leb _ _ value-short, (rw filled-back h, filled-zeros)))
+
+-- a count taken apart in two bytes
+pub two-bytes : (n : ℕ) → two (n / 256) (n % 256) ≡ n
+two-bytes n = omega arith
+
+-- what waits
+pub record Responded (r : Response) : Type 0 where
+  pub size : length (r .bytes) ≡ responseSize
+  pub mode : goodMode (r .mode) ≡ true
+  pub few : waitCount r ≤ responseSize
+  pub none : (marked (r .mode) || isZero (waitCount r)) ≡ true
+  pub rest : allOf isZero (drop (waitCount r) (r .bytes)) ≡ true
+
+abbrev responseList : Response → List Bool
+responseList r =
+    eqb (length (r .bytes)) responseSize
+    ∷ goodMode (r .mode)
+    ∷ leb (waitCount r) responseSize
+    ∷ (marked (r .mode) || isZero (waitCount r))
+    ∷ allOf isZero (drop (waitCount r) (r .bytes))
+    ∷ []
+
+pub responded : (r : Response) → soundResponse r ≡ true → Responded r
+unfolding soundResponse
+responded r h =
+    let e = each (responseList r) h in
+    record { size = eqb-true _ _ (e .0); mode = e .1 .0; few = leb-true _ _ (e .1 .1 .0); none = e .1 .1 .1 .0; rest = e .1 .1 .1 .1 }
+
+-- bytes that were set to wait do
+module _ (m : ℕ) (d : List ℕ) where
+  pub waits-back : take (waitCount (responseOf m d)) (responseOf m d .bytes) ≡ d
+  waits-back = rw (two-bytes (length d)) (filled-to-back responseSize d)
+
+  pub response-sound : goodMode m ≡ true → length d ≤ responseSize → (marked m ≡ true) ⊎ (length d ≡ 0) → soundResponse (responseOf m d) ≡ true
+  unfolding soundResponse
+  response-sound e l o =
+      all (responseList (responseOf m d))
+      (eq-eqb _ _ (filled-to-length responseSize d l), (e, (le-leb (waitCount (responseOf m d)) responseSize (rw (two-bytes (length d)) l), (none, rw (two-bytes (length d)) (filled-to-zeros responseSize d)))))
+    where
+      none : (marked m || isZero (waitCount (responseOf m d))) ≡ true
+      none = ⊎-elim (λ (t : marked m ≡ true). rw t) (λ z. either (marked m) (rw (two-bytes (length d)) (eq-eqb (length d) 0 z))) o
+
+-- what was set to wait on a card
+pub waiting-set : (c : Card) (d : List ℕ) → length d ≤ responseSize → waiting (withWaiting c d) ≡ d
+waiting-set c d h = waits-back (mode c) (take responseSize d) ∙ take-all responseSize d h
 
 -- none, or 4, 8 or 16 bytes
 abbrev pub sayable : ℕ → Bool
@@ -243,6 +302,7 @@ module _ (c : Card) (g : Good c) where
     directory = h;
     current = l;
     challenge = g .challenge;
+    response = g .response;
   }
 
   pub turned : (n : ℕ) → n ≤ c .directory .count → Good (withCurrent c n)
@@ -265,6 +325,7 @@ module _ (c : Card) (g : Good c) where
       directory = g .directory;
       current = g .current;
       challenge = g .challenge;
+      response = g .response;
     }
 
   -- other tries of a credential, and another right
@@ -296,6 +357,22 @@ module _ (c : Card) (g : Good c) where
     challenge =
         all (eqb (length (filled d)) 16 ∷ sayable (length d) ∷ allOf isZero (drop (length d) (filled d)) ∷ [])
         (eq-eqb _ _ (filled-length d (said-short (length d) h)), (h, filled-zeros d));
+    response = g .response;
+  }
+
+  -- other bytes that wait, none in mode 0
+  pub waited : (d : List ℕ) → (marked (mode c) ≡ true) ⊎ (d ≡ []) → Good (withWaiting c d)
+  unfolding soundChallenge
+  waited d m = record {
+    all-there = g .all-there;
+    all-kept = g .all-kept;
+    credited = g .credited;
+    directory = g .directory;
+    current = g .current;
+    challenge = g .challenge;
+    response =
+        response-sound (mode c) (take responseSize d) (responded (c .response) (g .response) .mode)
+        (omega (arith, length-take responseSize d)) (⊎-elim inl (λ e. inr (ap (λ (l : List ℕ). length (take responseSize l)) e)) m);
   }
 
 -- a session that is over
@@ -303,8 +380,8 @@ none-sound : soundChallenge noSession ≡ true
 unfolding soundChallenge allOf
 none-sound = refl
 
-pub ended : (c : Card) → Good c → Good (withSession c noSession)
-ended c g = record {
+pub session-over : (c : Card) → Good c → Good (withSession c noSession)
+session-over c g = record {
   all-there = g .all-there;
   all-kept = refl;
   credited = λ n l.
@@ -313,15 +390,20 @@ ended c g = record {
   directory = g .directory;
   current = omega arith;
   challenge = none-sound;
+  response = g .response;
 }
 
+pub ended : (c : Card) → Good c → Good (withWaiting (withSession c noSession) [])
+ended c g = waited (withSession c noSession) (session-over c g) [] (inr refl)
+
 -- a new card
-pub made : (f : Which → Credential) → ((w : Which) → Credited (numberOf w) (f w) 0) → Good (newCard f)
-made f h = record {
+pub made : (f : Which → Credential) (m : ℕ) → ((w : Which) → Credited (numberOf w) (f w) 0) → goodMode m ≡ true → Good (newCard f m)
+made f m h e = record {
   all-there = refl;
   all-kept = refl;
-  credited = by-number (λ n. Credited n (credential (newCard f) n) (rightKept (newCard f) n)) (λ w. rw (at-which f w, zero-at (numberOf w) howMany) (h w));
+  credited = by-number (λ n. Credited n (credential (newCard f m) n) (rightKept (newCard f m) n)) (λ w. rw (at-which f w, zero-at (numberOf w) howMany) (h w));
   directory = sound-none;
   current = omega arith;
   challenge = none-sound;
+  response = response-sound m [] e (omega arith) (inr refl);
 }

@@ -1,22 +1,24 @@
--- A served command, whole: framing, class, list, the command's own checks, its effect; the challenge dropped and the area touched once for all.
+-- A served command, whole: framing, class, list, the command's own checks, its effect; the challenge dropped, the area touched and data kept waiting
+-- once for all.
 use Prim.Native.Nat.{ℕ, _+_}
 use mathlib.Core.Bool.{Bool, cond}
 use mathlib.Core.List.{List, [], _∷_, _++_}
 use lib.Dec.{eqb}
-use lib.ListN.{take}
+use lib.ListN.{length, take, drop}
 use Rattle.files.specs.declared.Located.{Located}
 use Rattle.files.specs.Directory.{start}
 use Rattle.files.specs.Part.{part, splice}
 use Rattle.rules.specs.declared.Card.{Card}
 use Rattle.rules.specs.declared.Ins.{Ins}
 use Rattle.rules.specs.Words.{first, same}
-use Rattle.rules.specs.State.{logins, challenge, withCurrent, withChallenge}
+use Rattle.rules.specs.State.{marked, logins, challenge, mode, waiting, withCurrent, withChallenge, withWaiting}
 use Rattle.rules.specs.Frame.{Command, framed, frameSw, classSw}
 use Rattle.rules.specs.Effect.{Deed, turns, shows, stores, appends, makes, Touch, nothing, presents, changes, reloads, challenges, Effect, becomes, answers, saying, showing, storing}
 use Rattle.rules.specs.Record.{recordFound, appending}
 use Rattle.rules.specs.Pins.{compared, changing, reloading}
 use Rattle.rules.specs.Create.{making}
 use Rattle.rules.specs.List.{listed, Rule, ofFiles, ofCredentials, rule}
+use Rattle.rules.specs.Response.{waitSw, fetchCount, getResponseChecks, fetches}
 
 -- the checks of a rule, l the record that the command addresses
 abbrev pub checksOf : Rule → Card → Located → Command → List ℕ
@@ -77,5 +79,36 @@ settled e area = record {
   sw = e .sw;
 }
 
+-- the command itself: no rule of it knows the mode, and in mode 0 this is all
+unfoldable pub atOnce : Card → List ℕ → List ℕ → List ℕ → Stepped
+atOnce c area cmd random = settled (outcome (listed (framed cmd)) c (recordFound c area (framed cmd)) (framed cmd) random) area
+
+-- in mode 1 its data wait, and what waited before is discarded; 61 and their number counts as 9000
+abbrev pub waits : Stepped → Stepped
+waits s = record { card = withWaiting (s .card) (s .bytes); area = s .area; bytes = []; sw = waitSw (length (s .bytes)) (s .sw) }
+
+abbrev pub delivered : Bool → Stepped → Stepped
+delivered later s = cond later (waits s) s
+
+-- GET RESPONSE in mode 1 leaves all but what waits, and that too where it is refused
+abbrev pub unchanged : Card → List ℕ → ℕ → Stepped
+unchanged c area sw = record { card = c; area = area; bytes = []; sw = sw }
+
+-- the next n bytes; the rest moves to the front. While some remain it ends in 61 and that count, else 9000
+abbrev pub gives : Card → List ℕ → ℕ → Stepped
+gives c area n = record {
+  card = withWaiting c (drop n (waiting c));
+  area = area;
+  bytes = take n (waiting c);
+  sw = waitSw (length (drop n (waiting c))) 0x9000;
+}
+
+abbrev pub fetchSw : Card → Command → ℕ
+fetchSw c k = first (getResponseChecks (length (waiting c)) k)
+
+unfoldable pub fetched : Card → List ℕ → Command → Stepped
+fetched c area k = cond (eqb (fetchSw c k) 0x9000) (gives c area (fetchCount (length (waiting c)) k)) (unchanged c area (fetchSw c k))
+
 unfoldable pub step : Card → List ℕ → List ℕ → List ℕ → Stepped
-step c area cmd random = settled (outcome (listed (framed cmd)) c (recordFound c area (framed cmd)) (framed cmd) random) area
+step c area cmd random =
+    cond (fetches c (framed cmd)) (fetched c area (framed cmd)) (delivered (marked (mode c)) (atOnce c area cmd random))

@@ -14,10 +14,10 @@ use Rattle.files.specs.Walk.{stands, past, walk, parted}
 use Rattle.files.specs.Create.{goodContents}
 use Rattle.files.specs.Sound.{soundFile, unusedPlace, sfisDiffer, soundDirectory, partedArea}
 use Rattle.rules.specs.Words.{allOf, same}
-use Rattle.rules.specs.Sound.{goodPin, goodValue, soundValue, soundTries, soundCredential, soundChallenge, soundState, sound}
+use Rattle.rules.specs.Sound.{goodPin, goodValue, soundValue, soundTries, soundCredential, soundChallenge, soundResponse, soundState, sound}
 use Rattle.digits.specs.Digits.{places, decimal, hexDigit, hexOf, orDash, value}
 use Rattle.texts.specs.Text.{line, credentialLine, sessionLine, heldOrUsed, fileLine, rows, contents, filesText, credentialLines, text}
-use Rattle.texts.specs.Reading.{skip, pair, hexIn, numberFrom, number, small, triesIn, credentialIn, sessionIn, fileIn, pairs, pastRow, rowsIn, behind, filesIn, bytesIn, laid, directoryOf, cardIn, areaIn}
+use Rattle.texts.specs.Reading.{skip, pair, hexIn, numberFrom, number, small, triesIn, credentialIn, sessionIn, responseIn, fileIn, pairs, pastRow, rowsIn, behind, filesIn, bytesIn, laid, directoryOf, cardIn, areaIn}
 use Rattle.texts.specs.Calls.{toText, accepted, fromText}
 use Rattle.text_examples.specs.Table.{Row, allHold}
 use Rattle.text_examples.specs.Examples.{documented, states, sizes, counts}
@@ -25,12 +25,13 @@ use Rattle.text_examples.specs.FieldRanges.{every-number, every-byte, ev
 use Rattle.text_examples.specs.FileRanges.{file-lines, line-counts, contents-written, files-written}
 use Rattle.text_examples.specs.Longest.{longest-text}
 use Rattle.text_examples.specs.Refusals.{writer-refuses, reader-refuses, unsound-texts, other-forms}
+use Rattle.text_examples.specs.Waiting.{waiting-written, waiting-read, more-read, modes-read}
 use Rattle.text_examples.specs.Spoilt.{credentials-spoilt, session-spoilt, file-spoilt, cut-and-more}
 use Rattle.text_examples.specs.Rows.{table, EachHolds}
 
 -- whether rows hold, by computation: to unfold this is to unfold every definition that a row may need
 computed : List Row → Bool
-unfolding allBelow part over count recordLength size goodShape goodRights used startAt extent seek findFid bytesUsed soundHeld soundUsed partedFile stands past walk parted goodContents soundFile unusedPlace sfisDiffer soundDirectory partedArea allOf same goodPin goodValue soundValue soundTries soundCredential soundChallenge soundState sound places decimal hexDigit hexOf orDash value line credentialLine sessionLine heldOrUsed fileLine rows contents filesText credentialLines text skip pair hexIn numberFrom number small triesIn credentialIn sessionIn fileIn pairs pastRow rowsIn behind filesIn bytesIn laid directoryOf cardIn areaIn toText accepted fromText
+unfolding allBelow part over count recordLength size goodShape goodRights used startAt extent seek findFid bytesUsed soundHeld soundUsed partedFile stands past walk parted goodContents soundFile unusedPlace sfisDiffer soundDirectory partedArea allOf same goodPin goodValue soundValue soundTries soundCredential soundChallenge soundResponse soundState sound places decimal hexDigit hexOf orDash value line credentialLine sessionLine heldOrUsed fileLine rows contents filesText credentialLines text skip pair hexIn numberFrom number small triesIn credentialIn sessionIn responseIn fileIn pairs pastRow rowsIn behind filesIn bytesIn laid directoryOf cardIn areaIn toText accepted fromText
 computed = allHold
 
 pub documented-hold : allHold documented ≡ true
@@ -85,6 +86,22 @@ pub files-written-hold : allHold files-written ≡ true
 unfolding computed
 files-written-hold = refl
 
+pub waiting-written-hold : allHold waiting-written ≡ true
+unfolding computed
+waiting-written-hold = refl
+
+pub waiting-read-hold : allHold waiting-read ≡ true
+unfolding computed
+waiting-read-hold = refl
+
+pub more-read-hold : allHold more-read ≡ true
+unfolding computed
+more-read-hold = refl
+
+pub modes-read-hold : allHold modes-read ≡ true
+unfolding computed
+modes-read-hold = refl
+
 pub longest-text-hold : allHold longest-text ≡ true
 unfolding computed
 longest-text-hold = refl
@@ -123,4 +140,4 @@ cut-and-more-hold = refl
 
 pub table-holds : EachHolds table
 table-holds =
-    (documented-hold, (states-hold, (sizes-hold, (counts-hold, (every-number-hold, (every-byte-hold, (every-digit-hold, (credentials-written-hold, (sessions-written-hold, (file-lines-hold, (line-counts-hold, (contents-written-hold, (files-written-hold, (longest-text-hold, (writer-refuses-hold, (reader-refuses-hold, (unsound-texts-hold, (other-forms-hold, (credentials-spoilt-hold, (session-spoilt-hold, (file-spoilt-hold, (cut-and-more-hold, tt))))))))))))))))))))))
+    (documented-hold, (states-hold, (sizes-hold, (counts-hold, (every-number-hold, (every-byte-hold, (every-digit-hold, (credentials-written-hold, (sessions-written-hold, (file-lines-hold, (line-counts-hold, (contents-written-hold, (files-written-hold, (waiting-written-hold, (waiting-read-hold, (more-read-hold, (modes-read-hold, (longest-text-hold, (writer-refuses-hold, (reader-refuses-hold, (unsound-texts-hold, (other-forms-hold, (credentials-spoilt-hold, (session-spoilt-hold, (file-spoilt-hold, (cut-and-more-hold, tt))))))))))))))))))))))))))

@@ -16,5 +16,5 @@ use Rattle.text_examples.proofs.Hold.{longest-text-hold}
 pub longest-reached : (sound longest-card told ≡ true) × (length (text longest-card told) ≡ longest)
 longest-reached =
     let m : measured ≡ true = both measured true (both (measured && true) true longest-text-hold .0) .0 in
-    let k = both (sound longest-card told) (eqb (length (text longest-card told)) 8886) m in
-    (k .0, eqb-true (length (text longest-card told)) 8886 (k .1))
+    let k = both (sound longest-card told) (eqb (length (text longest-card told)) 9401) m in
+    (k .0, eqb-true (length (text longest-card told)) 9401 (k .1))

@@ -16,7 +16,7 @@ use Rattle.files.proofs.Checks.{clash, both, join, split, below}
 use Rattle.rules.specs.declared.Credential.{Credential}
 use Rattle.rules.specs.declared.Card.{Card}
 use Rattle.rules.specs.Words.{allOf}
-use Rattle.rules.specs.State.{credential, rightKept, valueOf, challenge}
+use Rattle.rules.specs.State.{credential, rightKept, valueOf, challenge, mode, waitCount, waiting}
 use Rattle.digits.specs.Digits.{newline, ended, lastDigit, places, decimal, hexDigit, hexOf, orDash}
 use Rattle.texts.specs.Text.{line, credentialLine, credentialLines, currentFid, sessionLine, fidBytes, createBytes, heldOrUsed, fileLine, rows, linesFor, contents, filesText, text}
 use Rattle.texts.specs.Laws.{Bytes, FileBytes, CardBytes}
@@ -190,7 +190,7 @@ module _ (c : Card) (b : CardBytes c) where
   unfolding sessionLine
   session-on r =
       line-on (decimal (rightKept c 0))
-      (decimal (rightKept c 1) ∷ decimal (rightKept c 2) ∷ orDash (currentFid (c .directory) (c .session .current)) ∷ orDash (challenge c) ∷ []) 10 r (
+      (decimal (rightKept c 1) ∷ decimal (rightKept c 2) ∷ orDash (currentFid (c .directory) (c .session .current)) ∷ orDash (challenge c) ∷ decimal (mode c) ∷ orDash (waiting c) ∷ []) 10 r (
         decimal-word (rightKept c 0),
         (
           decimal-word (rightKept c 1),
@@ -198,7 +198,10 @@ module _ (c : Card) (b : CardBytes c) where
             decimal-word (rightKept c 2),
             (
               dash-word (currentFid (c .directory) (c .session .current)) current-bytes,
-              (dash-word (challenge c) (bytes-take (c .session .len) (c .session .challenge) (b .challenge)), tt),
+              (
+                dash-word (challenge c) (bytes-take (c .session .len) (c .session .challenge) (b .challenge)),
+                (decimal-word (mode c), (dash-word (waiting c) (bytes-take (waitCount (c .response)) (c .response .bytes) (b .response .bytes)), tt)),
+              ),
             ),
           ),
         ),

@@ -11,7 +11,7 @@ use Rattle.digits.specs.Digits.{decimal, hexOf, orDash, value, hexPair}
 use Rattle.texts.specs.Text.{credentialLine, credentialLines, sessionLine}
 use Rattle.text_examples.specs.Bytes.{chars, hex, equal}
 use Rattle.text_examples.specs.Table.{Row, swept}
-use Rattle.text_examples.specs.Cards.{credential, session, told, key, holder, card}
+use Rattle.text_examples.specs.Cards.{credential, session, waits, told, key, holder, card}
 use Rattle.text_examples.specs.Own.{counting, counted, sixteen-digits, digit, digits, fields}
 
 -- every number that a card can have in a text, and around the next powers of ten
@@ -79,13 +79,16 @@ their-fids = hex 0x1_01010222134324643585_46A657C768E879098A2A_9B4BAC6CBD8DCEAED
 abbrev pub fid-of : ℕ → List ℕ
 fid-of place = cond (eqb place 0) (chars "-") (digits (take 2 (drop (place + place - 2) their-fids)))
 
+-- the session's line in mode 0, and with two bytes that wait
 abbrev pub session-is : ℕ → ℕ → List ℕ → List ℕ → Bool
 session-is rights place challenge said =
     let d = rights / 4 in
     let a = rights / 2 % 2 in
     let u = rights % 2 in
-    equal (sessionLine (holder (session d a u place challenge) sixteen))
-    (fields ((digit d ∷ []) ∷ (digit a ∷ []) ∷ (digit u ∷ []) ∷ fid-of place ∷ said ∷ []))
+    let c = holder (session d a u place challenge) sixteen in
+    let some = rights ∷ place ∷ [] in
+    equal (sessionLine c) (fields ((digit d ∷ []) ∷ (digit a ∷ []) ∷ (digit u ∷ []) ∷ fid-of place ∷ said ∷ chars "0" ∷ chars "-" ∷ []))
+    && equal (sessionLine (waits 1 some c)) (fields ((digit d ∷ []) ∷ (digit a ∷ []) ∷ (digit u ∷ []) ∷ fid-of place ∷ said ∷ chars "1" ∷ digits some ∷ []))
 
 -- with each of the eight sets of rights
 abbrev pub with-rights : ℕ → List ℕ → List ℕ → Row

@@ -7,6 +7,7 @@ pub mod Own
 pub mod FieldRanges
 pub mod FileRanges
 pub mod Refusals
+pub mod Waiting
 pub mod Spoilt
 pub mod Longest
 pub mod Rows

@@ -3,21 +3,21 @@ use Prim.Native.Nat.{ℕ, _+_, _*_}
 use Prim.Native.String.{String}
 use mathlib.Core.Bool.{false}
 use mathlib.Core.List.{List, [], _∷_, _++_}
-use lib.ListN.{drop}
+use lib.ListN.{drop, replicate}
 use Rattle.files.specs.State.{newFile, withUsed}
 use Rattle.rules.specs.declared.Card.{Card}
-use Rattle.rules.specs.State.{blankCard}
+use Rattle.rules.specs.State.{blankCard, withResponse}
 use Rattle.texts.specs.Calls.{toText}
 use Rattle.text_examples.specs.Bytes.{lines}
 use Rattle.text_examples.specs.Table.{Row, unwritten, unread, swept, is, filler, writes}
-use Rattle.text_examples.specs.Cards.{session, told, holder}
+use Rattle.text_examples.specs.Cards.{session, waits, told, holder}
 
--- a card whose text has 89 bytes
+-- a card whose text has 93 bytes
 abbrev pub plain : Card
 plain = holder (session 1 1 1 0 []) []
 
 abbrev pub plain-text : List ℕ
-plain-text = lines ("000102030405060708090A0B0C0D0E0F\t128\t128" ∷ "3837363534333231\t5\t5" ∷ "313233343536\t3\t3" ∷ "1\t1\t1\t-\t-" ∷ [])
+plain-text = lines ("000102030405060708090A0B0C0D0E0F\t128\t128" ∷ "3837363534333231\t5\t5" ∷ "313233343536\t3\t3" ∷ "1\t1\t1\t-\t-\t0\t-" ∷ [])
 
 -- one that is not sound: a right is kept as 2
 abbrev pub unsound : Card
@@ -27,25 +27,34 @@ unsound = holder (session 2 1 1 0 []) []
 abbrev pub noted : Card
 noted = holder (session 0 0 0 0 []) (withUsed (newFile 0xA1 0x03 0x2C 0 8 0x40 0x40) 3 ∷ [])
 
+-- one in which so many bytes wait, by the two bytes of their number, with the last of the 256
+abbrev pub counts-waiting : ℕ → ℕ → ℕ → Card
+counts-waiting count1 count2 last = withResponse plain (record { mode = 1; count1 = count1; count2 = count2; bytes = replicate 255 0 ++ (last ∷ []) })
+
 -- 2 data area not 4,096 bytes; 4 state not sound; 10 text buffer too short
 abbrev pub writer-refuses : List Row
 writer-refuses =
-    unwritten plain [] 89 2
-    ∷ unwritten plain (filler 4095) 89 2
-    ∷ unwritten plain (filler 4097) 89 2
+    unwritten plain [] 93 2
+    ∷ unwritten plain (filler 4095) 93 2
+    ∷ unwritten plain (filler 4097) 93 2
     -- 2 before 4 and before 10
-    ∷ unwritten unsound (filler 4095) 89 2
-    ∷ unwritten plain (filler 4097) 88 2
+    ∷ unwritten unsound (filler 4095) 93 2
+    ∷ unwritten plain (filler 4097) 92 2
     ∷ unwritten unsound (filler 0) 0 2
     -- 4 before 10
-    ∷ unwritten unsound (filler 4096) 8886 4
+    ∷ unwritten unsound (filler 4096) 9401 4
     ∷ unwritten unsound (filler 4096) 0 4
-    ∷ unwritten blankCard (filler 4096) 8886 4
-    ∷ unwritten noted (filler 4096) 8886 4
+    ∷ unwritten blankCard (filler 4096) 9401 4
+    ∷ unwritten noted (filler 4096) 9401 4
+    -- a mode of 2, a byte that waits in mode 0, 257 that wait, and one past those that do
+    ∷ unwritten (waits 2 [] plain) (filler 4096) 9401 4
+    ∷ unwritten (waits 0 (0 ∷ []) plain) (filler 4096) 9401 4
+    ∷ unwritten (counts-waiting 1 1 0) (filler 4096) 9401 4
+    ∷ unwritten (counts-waiting 0 255 1) (filler 4096) 9401 4
     ∷ unwritten noted (2 ∷ filler 4095) 10 10
     -- buffers that are too short, by a byte and by more, and some that are not: bytes behind the text stay
-    ∷ swept 12 (λ n. writes (toText plain told (filler (8 * n))) 10 plain 0 (filler (8 * n)))
-    ∷ swept 20 (λ n. writes (toText plain told (filler (89 + n))) 0 plain 89 (plain-text ++ filler n))
+    ∷ swept 24 (λ n. writes (toText plain told (filler (4 * n))) 10 plain 0 (filler (4 * n)))
+    ∷ swept 20 (λ n. writes (toText plain told (filler (93 + n))) 0 plain 93 (plain-text ++ filler n))
     ∷ []
 
 -- 2 data area not 4,096 bytes; 11 a text that is not the lines of a sound card
@@ -71,7 +80,7 @@ abbrev pub user-line : String
 user-line = "313233343536\t3\t3"
 
 abbrev pub session-line : String
-session-line = "1\t1\t1\t-\t-"
+session-line = "1\t1\t1\t-\t-\t0\t-"
 
 -- a text that is not accepted
 abbrev pub bad : List String → Row
@@ -109,13 +118,19 @@ unsound-texts =
     ∷ bad-user "313233343536\t3\t4"
     ∷ bad-user "313233343536\t3\t2"
     -- a right of 2, and of 257
-    ∷ bad-session "2\t1\t1\t-\t-"
-    ∷ bad-session "1\t1\t257\t-\t-"
+    ∷ bad-session "2\t1\t1\t-\t-\t0\t-"
+    ∷ bad-session "1\t1\t257\t-\t-\t0\t-"
     -- a current file that is not there, and challenges of 3, 5 and 17 bytes
-    ∷ bad-session "1\t1\t1\tA101\t-"
-    ∷ bad-session "1\t1\t1\t-\t001122"
-    ∷ bad-session "1\t1\t1\t-\t0011223344"
-    ∷ bad-session "1\t1\t1\t-\t0011223344556677889900112233445566"
+    ∷ bad-session "1\t1\t1\tA101\t-\t0\t-"
+    ∷ bad-session "1\t1\t1\t-\t001122\t0\t-"
+    ∷ bad-session "1\t1\t1\t-\t0011223344\t0\t-"
+    ∷ bad-session "1\t1\t1\t-\t0011223344556677889900112233445566\t0\t-"
+    -- modes of 2, 10 and 256, and a byte that waits in mode 0 and in mode 2
+    ∷ bad-session "1\t1\t1\t-\t-\t2\t-"
+    ∷ bad-session "1\t1\t1\t-\t-\t10\t-"
+    ∷ bad-session "1\t1\t1\t-\t-\t256\t-"
+    ∷ bad-session "1\t1\t1\t-\t-\t0\t90"
+    ∷ bad-session "1\t1\t1\t-\t-\t2\t90"
     -- SFI 0 and 31, and the same one twice
     ∷ bad-files ("A100\t2800010000\t0\t0" ∷ "00" ∷ [])
     ∷ bad-files ("A11F\t2800010000\t0\t0" ∷ "00" ∷ [])
@@ -151,14 +166,35 @@ other-forms =
     ∷ bad-user "313233343536\t3\t3\n"
     ∷ bad-user "123456\t3\t3"
     -- rights without tabs or as a byte, none as 0, 00 or nothing
-    ∷ bad-session "111\t-\t-"
-    ∷ bad-session "01\t01\t01\t-\t-"
-    ∷ bad-session "1\t1\t1\t0\t-"
-    ∷ bad-session "1\t1\t1\t0000\t-"
-    ∷ bad-session "1\t1\t1\t-\t00"
-    ∷ bad-session "1\t1\t1\t-\t"
-    ∷ bad-session "1\t1\t1\t\t-"
-    ∷ bad-session "1\t1\t1\t-\t0"
+    ∷ bad-session "111\t-\t-\t0\t-"
+    ∷ bad-session "01\t01\t01\t-\t-\t0\t-"
+    ∷ bad-session "1\t1\t1\t0\t-\t0\t-"
+    ∷ bad-session "1\t1\t1\t0000\t-\t0\t-"
+    ∷ bad-session "1\t1\t1\t-\t00\t0\t-"
+    ∷ bad-session "1\t1\t1\t-\t\t0\t-"
+    ∷ bad-session "1\t1\t1\t\t-\t0\t-"
+    ∷ bad-session "1\t1\t1\t-\t0\t0\t-"
+    -- no mode or no field for what waits, one field more, these two in another order, before the challenge, or on a line of their own
+    ∷ bad-session "1\t1\t1\t-\t-"
+    ∷ bad-session "1\t1\t1\t-\t-\t0"
+    ∷ bad-session "1\t1\t1\t-\t-\t-"
+    ∷ bad-session "1\t1\t1\t-\t-\t0\t-\t-"
+    ∷ bad-session "1\t1\t1\t-\t-\t-\t0"
+    ∷ bad-session "1\t1\t1\t-\t0\t-\t-"
+    ∷ bad-session "1\t1\t1\t-\t-\n0\t-"
+    -- a mode as a byte, with a leading zero, and none
+    ∷ bad-session "1\t1\t1\t-\t-\t00\t-"
+    ∷ bad-session "1\t1\t1\t-\t-\t01\t90"
+    ∷ bad-session "1\t1\t1\t-\t-\t-\t-"
+    ∷ bad-session "1\t1\t1\t-\t-\t\t-"
+    -- nothing that waits as nothing or as a 0; what waits in lower case, with an odd digit, a blank or a sign, and in two fields
+    ∷ bad-session "1\t1\t1\t-\t-\t1\t"
+    ∷ bad-session "1\t1\t1\t-\t-\t1\t0"
+    ∷ bad-session "1\t1\t1\t-\t-\t1\t9a"
+    ∷ bad-session "1\t1\t1\t-\t-\t1\t90A"
+    ∷ bad-session "1\t1\t1\t-\t-\t1\t90 A1"
+    ∷ bad-session "1\t1\t1\t-\t-\t1\t-90"
+    ∷ bad-session "1\t1\t1\t-\t-\t1\t90\tA1"
     -- lines in another order, one twice, one left out, and an empty one
     ∷ bad (admin-line ∷ device-line ∷ user-line ∷ session-line ∷ [])
     ∷ bad (session-line ∷ device-line ∷ admin-line ∷ user-line ∷ [])

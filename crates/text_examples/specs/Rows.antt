@@ -8,6 +8,7 @@ use Rattle.text_examples.specs.FieldRanges.{every-number, every-byte, ev
 use Rattle.text_examples.specs.FileRanges.{file-lines, line-counts, contents-written, files-written}
 use Rattle.text_examples.specs.Longest.{longest-text}
 use Rattle.text_examples.specs.Refusals.{writer-refuses, reader-refuses, unsound-texts, other-forms}
+use Rattle.text_examples.specs.Waiting.{waiting-written, waiting-read, more-read, modes-read}
 use Rattle.text_examples.specs.Spoilt.{credentials-spoilt, session-spoilt, file-spoilt, cut-and-more}
 
 abbrev pub table : List (List Row)
@@ -15,6 +16,7 @@ table =
     documented ∷ states ∷ sizes ∷ counts
     ∷ every-number ∷ every-byte ∷ every-digit ∷ credentials-written ∷ sessions-written
     ∷ file-lines ∷ line-counts ∷ contents-written ∷ files-written
+    ∷ waiting-written ∷ waiting-read ∷ more-read ∷ modes-read
     ∷ longest-text
     ∷ writer-refuses ∷ reader-refuses ∷ unsound-texts ∷ other-forms
     ∷ credentials-spoilt ∷ session-spoilt ∷ file-spoilt ∷ cut-and-more

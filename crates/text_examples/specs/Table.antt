@@ -26,6 +26,7 @@ abbrev pub numbers : Card → List ℕ
 numbers c =
     credentialsNumbers (c .credentials) ++ filesNumbers (c .directory .files) ++ (c .directory .count ∷ []) ++ c .session .rights
     ++ (c .session .current ∷ c .session .len ∷ []) ++ c .session .challenge
+    ++ (c .response .mode ∷ c .response .count1 ∷ c .response .count2 ∷ []) ++ c .response .bytes
 
 -- a buffer and an area that were in use
 abbrev pub filler : ℕ → List ℕ
@@ -47,7 +48,7 @@ reads g outcome card area =
 
 -- a blank state, all zero
 abbrev pub blank : List ℕ
-blank = replicate 255 0
+blank = replicate 514 0
 
 -- a text is accepted, or is not
 abbrev pub agree : Bool → Bool → Bool

@@ -1,6 +1,6 @@
 -- Credentials, session and files of a sound card, written and read back.
 -- Assumes nothing.
-use Prim.Native.Nat.{ℕ, zero, suc, _+_, _-_, _≤_, _<_}
+use Prim.Native.Nat.{ℕ, zero, suc, _+_, _-_, _/_, _%_, _≤_, _<_}
 use mathlib.Core.Bool.{true}
 use mathlib.Core.List.{List, [], _∷_, _++_, map}
 use mathlib.Core.Path.{_≡_, refl, ap}
@@ -15,10 +15,10 @@ use Rattle.files.specs.State.{newFile}
 use Rattle.files.proofs.Checks.{both}
 use Rattle.rules.specs.declared.Credential.{Credential}
 use Rattle.rules.specs.declared.Card.{Card}
-use Rattle.rules.specs.Words.{allOf, filled}
-use Rattle.rules.specs.State.{Which, device, admin, user, whiches, numberOf, howMany, rightKept, valueOf, challenge}
+use Rattle.rules.specs.Words.{allOf, filledTo}
+use Rattle.rules.specs.State.{Which, device, admin, user, whiches, numberOf, howMany, rightKept, valueOf, challenge, mode, responseSize, waitCount, waiting}
 use Rattle.texts.specs.Text.{line, credentialLine, fidBytes, currentFid, sessionLine, createBytes, heldOrUsed, fileLine}
-use Rattle.texts.specs.Reading.{skips, triesIn, credentialIn, currentIn, sessionIn, counted, fileIn}
+use Rattle.texts.specs.Reading.{skips, triesIn, credentialIn, currentIn, sessionIn, responseIn, counted, fileIn}
 use Rattle.texts.specs.Laws.{Bytes, FileBytes}
 use Rattle.texts.proofs.Lines.{hex-first, number-first, small-first, skip-hex, skip-number, skip-last-hex, skip-last-number}
 
@@ -34,20 +34,20 @@ zero-tail (suc n) [] m e h = rw (← e)
 zero-tail (suc n) (x ∷ xs) zero e h = absurd (omega arith)
 zero-tail (suc n) (x ∷ xs) (suc m) e h = zero-tail n xs m (omega arith) h
 
--- a value that is the first bytes of sixteen
-pub record Front (n : ℕ) (d : List ℕ) : Type 0 where
-  pub places : length d ≡ 16
-  pub few : n ≤ 16
+-- a value that is the first bytes of so many
+pub record Front (size n : ℕ) (d : List ℕ) : Type 0 where
+  pub places : length d ≡ size
+  pub few : n ≤ size
   pub tail : allOf isZero (drop n d) ≡ true
   pub bytes : Bytes (take n d)
 
-module _ (n : ℕ) (d : List ℕ) (h : Front n d) where
+module _ (size n : ℕ) (d : List ℕ) (h : Front size n d) where
   pub front-length : length (take n d) ≡ n
   front-length = length-take-le n d (omega (arith, h .places, h .few))
 
-  filled-front : filled (take n d) ≡ d
+  filled-front : filledTo size (take n d) ≡ d
   unfolding over
-  filled-front = rw (front-length, zero-tail n d 16 (h .places) (h .tail)) (take-append-drop n d)
+  filled-front = rw (front-length, zero-tail n d size (h .places) (h .tail)) (take-append-drop n d)
 
 -- a credential's line
 module _ (x : Credential) (r : List ℕ) where
@@ -55,17 +55,17 @@ module _ (x : Credential) (r : List ℕ) where
   unfolding credentialLine
   credential-end = rw (skip-hex (valueOf x), skip-number (x .tries .limit), skip-last-number (x .tries .left))
 
-  pub credential-back : Front (x .len) (x .value) → x .tries .limit < 256 → x .tries .left < 256 → credentialIn (credentialLine x ++ r) ≡ x
+  pub credential-back : Front 16 (x .len) (x .value) → x .tries .limit < 256 → x .tries .left < 256 → credentialIn (credentialLine x ++ r) ≡ x
   unfolding credentialLine credentialIn triesIn
   credential-back f h k =
-      let len = front-length (x .len) (x .value) f in
+      let len = front-length 16 (x .len) (x .value) f in
       rw (
         hex-first 16 (valueOf x) _ r (omega (arith, len, f .few)) (f .bytes),
         skip-hex (valueOf x),
         skip-number (x .tries .limit),
         small-first (x .tries .limit) _ r h,
         small-first (x .tries .left) _ r k,
-        filled-front (x .len) (x .value) f,
+        filled-front 16 (x .len) (x .value) f,
         len,
       )
 
@@ -82,15 +82,16 @@ module _ (c : Card) (r : List ℕ) where
   abbrev now : List ℕ
   now = currentFid (c .directory) (c .session .current)
 
-  pub session-end : skips (howMany + 2) (sessionLine c ++ r) ≡ r
+  pub session-end : skips (howMany + 4) (sessionLine c ++ r) ≡ r
   unfolding sessionLine
-  session-end = rw (skip-number (rightKept c 0), skip-number (rightKept c 1), skip-number (rightKept c 2), skip-hex now, skip-last-hex (challenge c))
+  session-end =
+      rw (skip-number (rightKept c 0), skip-number (rightKept c 1), skip-number (rightKept c 2), skip-hex now, skip-hex (challenge c), skip-number (mode c), skip-last-hex (waiting c))
 
   pub session-back : length (c .session .rights) ≡ howMany → ((w : Which) → rightKept c (numberOf w) < 256) → length now ≤ 2 → Bytes now
-      → currentIn (c .directory) now ≡ c .session .current → Front (c .session .len) (c .session .challenge) → sessionIn (c .directory) (sessionLine c ++ r) ≡ c .session
+      → currentIn (c .directory) now ≡ c .session .current → Front 16 (c .session .len) (c .session .challenge) → sessionIn (c .directory) (sessionLine c ++ r) ≡ c .session
   unfolding sessionLine sessionIn
   session-back e low n b cur f =
-      let len = front-length (c .session .len) (c .session .challenge) f in
+      let len = front-length 16 (c .session .len) (c .session .challenge) f in
       rw (
         skip-number (rightKept c 0),
         skip-number (rightKept c 1),
@@ -102,10 +103,31 @@ module _ (c : Card) (r : List ℕ) where
         hex-first 2 now _ r n b,
         cur,
         hex-first 16 (challenge c) _ r (omega (arith, len, f .few)) (f .bytes),
-        filled-front (c .session .len) (c .session .challenge) f,
+        filled-front 16 (c .session .len) (c .session .challenge) f,
         len,
       )
       (ap (λ (l : List ℕ). record { rights = l; current = c .session .current; challenge = c .session .challenge; len = c .session .len }) (each-kept (c .session .rights) 0 e))
+
+  pub response-back : mode c < 256 → c .response .count2 < 256 → Front responseSize (waitCount (c .response)) (c .response .bytes) → responseIn (sessionLine c ++ r) ≡ c .response
+  unfolding sessionLine responseIn
+  response-back m low f =
+      let len = front-length responseSize (waitCount (c .response)) (c .response .bytes) f in
+      let high₀ : waitCount (c .response) / 256 ≡ c .response .count1 = omega (arith, low) in
+      let low₀ : waitCount (c .response) % 256 ≡ c .response .count2 = omega (arith, low) in
+      rw (
+        skip-number (rightKept c 0),
+        skip-number (rightKept c 1),
+        skip-number (rightKept c 2),
+        skip-hex now,
+        skip-hex (challenge c),
+        skip-number (mode c),
+        small-first (mode c) _ r m,
+        hex-first responseSize (waiting c) _ r (omega (arith, len, f .few)) (f .bytes),
+        filled-front responseSize (waitCount (c .response)) (c .response .bytes) f,
+        len,
+        high₀,
+        low₀,
+      )
 
 -- a file's line
 pub bytes-nil : Bytes []

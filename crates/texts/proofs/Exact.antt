@@ -1,6 +1,6 @@
 -- The reader accepts exactly the texts of sound cards.
 -- Assumes nothing.
-use Prim.Native.Nat.{ℕ, zero, suc, _+_, _-_, _*_, _%_, _<_}
+use Prim.Native.Nat.{ℕ, zero, suc, _+_, _-_, _*_, _%_, _≤_, _<_}
 use mathlib.Core.Bool.{true}
 use mathlib.Core.List.{List, [], _∷_, _++_}
 use mathlib.Core.Path.{_≡_, sym, ap, ap₂, _∙_}
@@ -15,14 +15,14 @@ use Rattle.files.specs.Types.{isVariable, size}
 use Rattle.files.specs.Directory.{mostFiles, fileAt}
 use Rattle.files.specs.Create.{areaSize}
 use Rattle.files.proofs.Checks.{split}
-use Rattle.rules.specs.Words.{byte, filled}
-use Rattle.rules.specs.State.{Which, numberOf, howMany, credential}
+use Rattle.rules.specs.Words.{byte, filledTo}
+use Rattle.rules.specs.State.{Which, numberOf, howMany, credential, responseSize}
 use Rattle.rules.proofs.Good.{by-number, at-which}
 use Rattle.digits.specs.Digits.{value}
 use Rattle.texts.specs.Text.{linesFor, text}
-use Rattle.texts.specs.Reading.{skips, pair, hexIn, numberFrom, number, small, credentialIn, sessionIn, fileOf, fileIn, pairs, inRow, pastRow, rowsIn, contentsOf, afterFile, goesOn, filesIn, bytesIn, laid, directoryOf, sessionPart, filesPart, cardIn, areaIn}
+use Rattle.texts.specs.Reading.{skips, pair, hexIn, numberFrom, number, small, credentialIn, sessionIn, responseIn, fileOf, fileIn, pairs, inRow, pastRow, rowsIn, contentsOf, afterFile, goesOn, filesIn, bytesIn, laid, directoryOf, sessionPart, filesPart, cardIn, areaIn}
 use Rattle.texts.specs.Calls.{Got, fromText, accepted}
-use Rattle.texts.specs.Laws.{Bytes, FileBytes, CardBytes, TextOf, TextAccepted, AcceptedText, OneText}
+use Rattle.texts.specs.Laws.{Bytes, FileBytes, ResponseBytes, CardBytes, TextOf, TextAccepted, AcceptedText, OneText}
 use Rattle.texts.proofs.Cards.{bytes-nil, bytes-cons}
 use Rattle.texts.proofs.Contents.{bytes-drop}
 use Rattle.texts.proofs.Trips.{text-accepted, read-text, area-length, read-by}
@@ -41,6 +41,12 @@ unfolding hexIn
 hex-bytes zero s = bytes-nil
 hex-bytes (suc n) s = split Bytes (ltb (value (byte s 0)) 16) (λ _. bytes-cons (pair s) (hexIn n (drop 2 s)) (pair-low s) (hex-bytes n (drop 2 s))) (λ _. bytes-nil)
 
+-- no more of them than asked for
+pub hex-few : (n : ℕ) (s : List ℕ) → length (hexIn n s) ≤ n
+unfolding hexIn
+hex-few zero s = omega arith
+hex-few (suc n) s = split (λ (l : List ℕ). length l ≤ suc n) (ltb (value (byte s 0)) 16) (λ _. let k = hex-few n (drop 2 s) in omega arith) (λ _. omega arith)
+
 bytes-append : (xs ys : List ℕ) → Bytes xs → Bytes ys → Bytes (xs ++ ys)
 bytes-append [] ys h k = k
 bytes-append (x ∷ xs) ys h k = bytes-cons x (xs ++ ys) (h 0) (bytes-append xs ys (λ i. h (suc i)) k)
@@ -49,9 +55,9 @@ bytes-zeros : (n : ℕ) → Bytes (zeros n)
 bytes-zeros zero = bytes-nil
 bytes-zeros (suc n) = bytes-cons 0 (zeros n) (omega arith) (bytes-zeros n)
 
-filled-bytes : (d : List ℕ) → Bytes d → Bytes (filled d)
+filled-bytes : (n : ℕ) (d : List ℕ) → Bytes d → Bytes (filledTo n d)
 unfolding over
-filled-bytes d h = bytes-append d (drop (length d) (zeros 16)) h (bytes-drop (length d) (zeros 16) (bytes-zeros 16))
+filled-bytes n d h = bytes-append d (drop (length d) (zeros n)) h (bytes-drop (length d) (zeros n) (bytes-zeros n))
 
 pairs-bytes : (n : ℕ) (s : List ℕ) → Bytes (pairs n s)
 unfolding pairs
@@ -160,7 +166,17 @@ files-bytes (suc n) room s =
 
 value-bytes : (s : List ℕ) → Bytes (credentialIn s .value)
 unfolding credentialIn
-value-bytes s = filled-bytes (hexIn 16 s) (hex-bytes 16 s)
+value-bytes s = filled-bytes 16 (hexIn 16 s) (hex-bytes 16 s)
+
+response-bytes : (s : List ℕ) → ResponseBytes (responseIn s)
+unfolding responseIn
+response-bytes s =
+    record {
+      mode = small-low (skips (howMany + 2) s);
+      count1 = omega (arith, hex-few responseSize (skips (howMany + 3) s));
+      count2 = omega arith;
+      bytes = filled-bytes responseSize (hexIn responseSize (skips (howMany + 3) s)) (hex-bytes responseSize (skips (howMany + 3) s));
+    }
 
 card-bytes : (s : List ℕ) → CardBytes (cardIn s)
 unfolding cardIn sessionIn directoryOf
@@ -168,8 +184,9 @@ card-bytes s = record {
   values =
       by-number (λ n. Bytes (credential (cardIn s) n .value))
       (λ w. rw (at-which (λ (v : Which). credentialIn (skips (3 * numberOf v) s)) w) (value-bytes (skips (3 * numberOf w) s)));
-  challenge = filled-bytes (hexIn 16 (skips (suc howMany) (sessionPart s))) (hex-bytes 16 (skips (suc howMany) (sessionPart s)));
+  challenge = filled-bytes 16 (hexIn 16 (skips (suc howMany) (sessionPart s))) (hex-bytes 16 (skips (suc howMany) (sessionPart s)));
   files = each-laid (replicate mostFiles blankFile) 0 (filesIn mostFiles areaSize (filesPart s)) (each-blank mostFiles) (files-bytes mostFiles areaSize (filesPart s));
+  response = response-bytes (sessionPart s);
 }
 
 area-bytes : (s : List ℕ) → Bytes (areaIn s)

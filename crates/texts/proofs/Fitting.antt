@@ -1,4 +1,4 @@
--- No sound card has a longer text than 8,886 bytes.
+-- No sound card has a longer text than 9,401 bytes.
 -- Assumes nothing.
 use Prim.Native.Nat.{ℕ, zero, suc, _+_, _-_, _*_, _≤_, _<_}
 use mathlib.Core.Bool.{Bool, true, false, cond, _||_}
@@ -21,9 +21,9 @@ use Rattle.files.proofs.Kept.{filed}
 use Rattle.rules.specs.declared.Credential.{Credential}
 use Rattle.rules.specs.declared.Card.{Card}
 use Rattle.rules.specs.Words.{allOf}
-use Rattle.rules.specs.State.{Which, device, admin, user, numberOf, credential, rightKept, valueOf, challenge}
+use Rattle.rules.specs.State.{Which, device, admin, user, numberOf, credential, rightKept, valueOf, challenge, mode, responseSize, waitCount, waiting}
 use Rattle.rules.specs.Sound.{goodValue, soundValue, goodChallenge, soundChallenge, sound}
-use Rattle.rules.proofs.Good.{Good, numbered, sound-good, said-short}
+use Rattle.rules.proofs.Good.{Good, numbered, sound-good, said-short, responded}
 use Rattle.texts.specs.Text.{line, credentialLine, credentialLines, currentFid, sessionLine, fidBytes, createBytes, heldOrUsed, fileLine, contents, filesText, text}
 use Rattle.texts.specs.Laws.{TextFits}
 use Rattle.texts.proofs.Contents.{hexOf-length, contents-text, start-cons}
@@ -83,22 +83,26 @@ credential-length x h l t =
       three-places (x .tries .left) (omega arith),
     )
 
-session-length : (c : Card) → ((w : Which) → rightKept c (numberOf w) ≤ 1) → length (challenge c) ≤ 16 → length (sessionLine c) ≤ 44
+session-length : (c : Card) → ((w : Which) → rightKept c (numberOf w) ≤ 1) → length (challenge c) ≤ 16 → mode c ≤ 1 → length (waiting c) ≤ responseSize → length (sessionLine c) ≤ 559
 unfolding sessionLine
-session-length c h l =
+session-length c h l m w =
     let fid = currentFid (c .directory) (c .session .current) in
     omega (
       arith,
-      more-length (decimal (rightKept c 0)) (decimal (rightKept c 1)) (decimal (rightKept c 2) ∷ orDash fid ∷ orDash (challenge c) ∷ []),
-      more-length (decimal (rightKept c 1)) (decimal (rightKept c 2)) (orDash fid ∷ orDash (challenge c) ∷ []),
-      more-length (decimal (rightKept c 2)) (orDash fid) (orDash (challenge c) ∷ []),
-      more-length (orDash fid) (orDash (challenge c)) [],
-      last-length (orDash (challenge c)),
+      more-length (decimal (rightKept c 0)) (decimal (rightKept c 1)) (decimal (rightKept c 2) ∷ orDash fid ∷ orDash (challenge c) ∷ decimal (mode c) ∷ orDash (waiting c) ∷ []),
+      more-length (decimal (rightKept c 1)) (decimal (rightKept c 2)) (orDash fid ∷ orDash (challenge c) ∷ decimal (mode c) ∷ orDash (waiting c) ∷ []),
+      more-length (decimal (rightKept c 2)) (orDash fid) (orDash (challenge c) ∷ decimal (mode c) ∷ orDash (waiting c) ∷ []),
+      more-length (orDash fid) (orDash (challenge c)) (decimal (mode c) ∷ orDash (waiting c) ∷ []),
+      more-length (orDash (challenge c)) (decimal (mode c)) (orDash (waiting c) ∷ []),
+      more-length (decimal (mode c)) (orDash (waiting c)) [],
+      last-length (orDash (waiting c)),
       one-place (rightKept c 0) (omega (arith, h device)),
       one-place (rightKept c 1) (omega (arith, h admin)),
       one-place (rightKept c 2) (omega (arith, h user)),
       hex-length 2 fid (omega arith) (current-short (c .directory) (c .session .current)),
       hex-length 16 (challenge c) (omega arith) l,
+      one-place (mode c) (omega (arith, m)),
+      hex-length responseSize (waiting c) (omega arith) w,
     )
 
 -- the two counts of a file take six digits at the most
@@ -154,21 +158,21 @@ files-length (suc n) (f ∷ files) area h k =
     )
 
 -- the whole text
-front-short : (n : ℕ) (d : List ℕ) → n ≤ 16 → length (take n d) ≤ 16
-front-short n d h = omega (arith, length-take n d)
+front-short : (size n : ℕ) (d : List ℕ) → n ≤ size → length (take n d) ≤ size
+front-short size n d h = omega (arith, length-take n d)
 
 value-short : (n : ℕ) (x : Credential) → soundValue n x ≡ true → length (valueOf x) ≤ 16
 unfolding soundValue
 value-short n x h =
     let e = each (eqb (length (x .value)) 16 ∷ leb (x .len) 16 ∷ goodValue n (valueOf x) ∷ allOf isZero (drop (x .len) (x .value)) ∷ []) h in
-    front-short (x .len) (x .value) (leb-true _ _ (e .1 .0))
+    front-short 16 (x .len) (x .value) (leb-true _ _ (e .1 .0))
 
 challenge-short : (c : Card) → soundChallenge (c .session) ≡ true → length (challenge c) ≤ 16
 unfolding soundChallenge
 challenge-short c h =
     let s = c .session in
     let e = each (eqb (length (c .session .challenge)) 16 ∷ (isZero (c .session .len) || goodChallenge (c .session .len)) ∷ allOf isZero (drop (c .session .len) (c .session .challenge)) ∷ []) h in
-    front-short (c .session .len) (c .session .challenge) (said-short (c .session .len) (e .1 .0))
+    front-short 16 (c .session .len) (c .session .challenge) (said-short (c .session .len) (e .1 .0))
 
 module _ (c : Card) (g : Good c) where
   line-at : (w : Which) → length (credentialLine (credential c (numberOf w))) ≤ 41
@@ -196,6 +200,7 @@ text-fits c area h =
     let d = c .directory in
     let fd = filed (c .directory) (g .directory) in
     let u = used-is (c .directory) (fd .few) in
+    let k = responded (c .response) (g .response) in
     let files = files-length (d .count) (d .files) area (omega (arith, fd .places, fd .few)) (λ i l. (place-sound (c .directory) fd i l, place-fits (c .directory) fd i l)) in
     rw u
     (omega (
@@ -203,7 +208,8 @@ text-fits c area h =
       length-append (credentialLines c) (sessionLine c ++ filesText (take (d .count) (d .files)) area),
       length-append (sessionLine c) (filesText (take (d .count) (d .files)) area),
       credentials-length c g,
-      session-length c (λ w. g .credited (numberOf w) (numbered w) .low) (challenge-short c (g .challenge)),
+      session-length c (λ w. g .credited (numberOf w) (numbered w) .low) (challenge-short c (g .challenge)) (leb-true _ _ (k .mode))
+          (front-short responseSize (waitCount (c .response)) (c .response .bytes) (k .few)),
       files,
       fd .room,
       fd .few,

@@ -7,7 +7,7 @@ use mathlib.Core.Path.{_≡_, refl, sym, ap, _∙_}
 use native.Mathlib.Omega.{arith}
 use lib.Dec.{leb}
 use lib.ListN.{length, take, drop, replicate, length-replicate, drop-of-length-le}
-use lib.Seq.{take-at, length-take-le}
+use lib.Seq.{take-at, take-all, length-take-le}
 use borrow.Author.Tests.{eq-eqb, ne-eqb, le-leb}
 use Rattle.files.specs.declared.File.{File}
 use Rattle.files.specs.declared.Directory.{Directory}
@@ -21,21 +21,23 @@ use Rattle.files.proofs.Parts.{over-splice}
 use Rattle.rules.specs.declared.Tries.{Tries}
 use Rattle.rules.specs.declared.Credential.{Credential}
 use Rattle.rules.specs.declared.Session.{Session}
+use Rattle.rules.specs.declared.Response.{Response}
 use Rattle.rules.specs.declared.Card.{Card}
 use Rattle.rules.specs.declared.Answer.{Answer}
 use Rattle.rules.specs.Calls.{answer}
 use Rattle.rules.specs.Words.{byte, same}
-use Rattle.rules.specs.State.{howMany, blankCard}
+use Rattle.rules.specs.State.{howMany, responseSize, responseOf, blankCard}
 use Rattle.rules.specs.Sound.{sound}
 use Rattle.texts.specs.Text.{text}
 use Rattle.texts.specs.Page.{Draws}
-use Rattle.texts.specs.Reading.{skip, skips, hexIn, number, small, triesOf, triesIn, credentialIn, currentIn, rightsIn, sessionIn, counted, fileOf, fileIn, filesIn, bytesIn, directoryOf, sessionPart, filesPart, cardIn, areaIn, Fills, LoadsAll, LoadsCard}
+use Rattle.texts.specs.Reading.{skip, skips, hexIn, number, small, triesOf, triesIn, credentialIn, currentIn, rightsIn, sessionIn, responseIn, counted, fileOf, fileIn, filesIn, bytesIn, directoryOf, sessionPart, filesPart, cardIn, areaIn, Fills, LoadsAll, LoadsCard}
 use Rattle.texts.specs.Calls.{accepted, toText, Writes, fromText, Reads}
 use Rattle.texts.specs.Laws.{longest}
 use Rattle.texts.proofs.Drawing.{drawn-over}
 use Rattle.texts.proofs.Contents.{laid-length}
 use Rattle.texts.proofs.Fitting.{text-fits}
-use Rattle.texts.proofs.Scanning.{hex-few, laid-filled, laid-byte}
+use Rattle.texts.proofs.Exact.{hex-few}
+use Rattle.texts.proofs.Scanning.{laid-filled, laid-byte}
 
 pub tries-are : (s : List ℕ) (limit left : ℕ) → limit ≡ small s → left ≡ small (skip s) → triesOf left limit ≡ triesIn s
 unfolding triesIn
@@ -43,7 +45,7 @@ tries-are s limit left e f = rw (e, f)
 
 pub credential-is : (s : List ℕ) (t : Tries) (n : ℕ) (left : List ℕ) → t ≡ triesIn (skip s) → Fills (hexIn 16 s) (replicate 16 0) n left → (x : Credential) → x ≡ record { value = left; len = n; tries = t } → x ≡ credentialIn s
 unfolding credentialIn
-credential-is s t n left e f x h = h ∙ rw (f .left-is, laid-filled s, e, f .count-is)
+credential-is s t n left e f x h = h ∙ rw (f .left-is, laid-filled 16 s, e, f .count-is)
 
 module _ (d : Directory) (h : List ℕ) (n : ℕ) (e : n ≡ length h) where
   pub current-none : n ≡ 0 → 0 ≡ currentIn d h
@@ -58,7 +60,22 @@ byte-of m s n left i f = rw (f .left-is) (laid-byte m (hexIn m s) i (hex-few m s
 pub session-is : (d : Directory) (s rights : List ℕ) (cur n : ℕ) (left : List ℕ) → rights ≡ rightsIn s → cur ≡ currentIn d (hexIn 2 (skips howMany s))
     → Fills (hexIn 16 (skips (suc howMany) s)) (replicate 16 0) n left → (x : Session) → x ≡ record { rights = rights; current = cur; challenge = left; len = n } → x ≡ sessionIn d s
 unfolding sessionIn
-session-is d s rights cur n left e c f x h = h ∙ rw (e, c, f .left-is, laid-filled (skips (suc howMany) s), f .count-is)
+session-is d s rights cur n left e c f x h = h ∙ rw (e, c, f .left-is, laid-filled 16 (skips (suc howMany) s), f .count-is)
+
+-- the bytes read are those at the front of the buffer
+hex-front : (m : ℕ) (s : List ℕ) (n : ℕ) (left : List ℕ) → Fills (hexIn m s) (replicate m 0) n left → take n left ≡ hexIn m s
+unfolding over
+hex-front m s n left f =
+    ap (take n) (f .left-is ∙ laid-filled m s) ∙ take-at (hexIn m s) (drop (length (hexIn m s)) (replicate m 0)) n (sym (f .count-is))
+
+pub hex-part : (m : ℕ) (s : List ℕ) (n : ℕ) (left : List ℕ) → Fills (hexIn m s) (replicate m 0) n left → n ≡ length (take n left)
+hex-part m s n left f = f .count-is ∙ ap length (sym (hex-front m s n left f))
+
+pub response-is : (s rest : List ℕ) (mode n : ℕ) (left : List ℕ) (x : Response) → mode ≡ small (skips (howMany + 2) s) → rest ≡ skips (howMany + 3) s
+    → Fills (hexIn responseSize rest) (replicate responseSize 0) n left → x ≡ responseOf mode (take responseSize (take n left)) → x ≡ responseIn s
+unfolding responseIn
+response-is s rest mode n left x m e f h =
+    h ∙ rw (hex-front responseSize rest n left f, take-all responseSize (hexIn responseSize rest) (hex-few responseSize rest), m, e)
 
 -- a file's counts
 module _ (f r : File) (n newest : ℕ) where
@@ -78,12 +95,13 @@ file-is s n m k newest fid made f r a b e h l q =
     let g : f ≡ fileOf (hexIn 2 s) (hexIn 5 (skips 1 s)) = e ∙ rw (x 0 a, x 1 a, y 0 b, y 1 b, y 2 b, y 3 b, y 4 b) in
     q ∙ rw (g, h, l)
 
-pub card-loaded : (s image left : List ℕ) (v a u : Credential) (d : Directory) (ss : Session) (x : Card) → v ≡ credentialIn s → a ≡ credentialIn (skips 3 s) → u ≡ credentialIn (skips 6 s)
-    → length image ≡ areaSize → LoadsAll (filesPart s) image d left → ss ≡ sessionIn d (sessionPart s) → x ≡ record { credentials = v ∷ a ∷ u ∷ []; directory = d; session = ss } → LoadsCard s image x left
+pub card-loaded : (s image left : List ℕ) (v a u : Credential) (d : Directory) (ss : Session) (rs : Response) (x : Card) → v ≡ credentialIn s → a ≡ credentialIn (skips 3 s) → u ≡ credentialIn (skips 6 s)
+    → length image ≡ areaSize → LoadsAll (filesPart s) image d left → ss ≡ sessionIn d (sessionPart s) → rs ≡ responseIn (sessionPart s)
+    → x ≡ record { credentials = v ∷ a ∷ u ∷ []; directory = d; session = ss; response = rs } → LoadsCard s image x left
 unfolding cardIn
-card-loaded s image left v a u d ss x hv ha hu n l hs h =
+card-loaded s image left v a u d ss rs x hv ha hu n l hs hr h =
     let directory : d ≡ directoryOf (filesIn mostFiles areaSize (filesPart s)) = l .directory-is ∙ rw n in
-    record { card-is = h ∙ rw (hs, directory, hv, ha, hu); left-is = l .left-is ∙ rw n }
+    record { card-is = h ∙ rw (hs, hr, directory, hv, ha, hu); left-is = l .left-is ∙ rw n }
 
 -- the text of a sound card, drawn on a page that takes it
 module _ (c : Card) (area : List ℕ) (h : sound c area ≡ true) (n : ℕ) (drawn : List ℕ) (w : Draws (text c area) (replicate longest 0) 0 n drawn) where

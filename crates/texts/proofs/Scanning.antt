@@ -22,12 +22,12 @@ use Rattle.files.specs.State.{blankFile, noFiles, added}
 use Rattle.files.specs.Types.{size}
 use Rattle.files.specs.Directory.{mostFiles}
 use Rattle.files.proofs.Checks.{each, split}
-use Rattle.rules.specs.Words.{byte, filled}
+use Rattle.rules.specs.Words.{byte, filledTo}
 use Rattle.texts.specs.Text.{linesFor}
 use Rattle.texts.specs.Reading.{ends, skip, skips, pair, hexIn, numberFrom, number, pairs, pastRow, rowsIn, behind, contentsIn, fileIn, contentsOf, afterFile, lengthFor, goesOn, filesIn, bytesIn, laid, directoryOf, Reaches, Fills, Loads, LoadsAll}
 use Rattle.texts.proofs.Contents.{pairs-length, contents-length, laid-front, laid-length, laid-append, drop-replicate}
 use Rattle.texts.proofs.Drawing.{drop-fewer}
-use Rattle.texts.proofs.Exact.{number-low}
+use Rattle.texts.proofs.Exact.{number-low, hex-few}
 
 -- bytes of what is left
 first-byte : (s : List ℕ) (at : ℕ) → byte (drop at s) 0 ≡ byte s at
@@ -150,14 +150,9 @@ pub from-is : (s : List ℕ) (at : ℕ) → take (length s - at) (drop at s) ≡
 from-is s at = let e : length (drop at s) ≡ length s - at = length-drop at s in take-all (length s - at) (drop at s) (omega arith)
 
 -- bytes over the front of a buffer of 00
-pub hex-few : (n : ℕ) (s : List ℕ) → length (hexIn n s) ≤ n
-unfolding hexIn
-hex-few zero s = omega arith
-hex-few (suc n) s = split (λ (l : List ℕ). length l ≤ suc n) (ltb (value (byte s 0)) 16) (λ _. let k = hex-few n (drop 2 s) in omega arith) (λ _. omega arith)
-
-pub laid-filled : (s : List ℕ) → laid (zeros 16) 0 (hexIn 16 s) ≡ filled (hexIn 16 s)
+pub laid-filled : (n : ℕ) (s : List ℕ) → laid (zeros n) 0 (hexIn n s) ≡ filledTo n (hexIn n s)
 unfolding over
-laid-filled s = laid-front (zeros 16) (hexIn 16 s) (hex-few 16 s)
+laid-filled n s = laid-front (zeros n) (hexIn n s) (omega (arith, hex-few n s, length-replicate {A = ℕ} n 0))
 
 zero-byte : (m k : ℕ) → byte (zeros m) k ≡ 0
 zero-byte zero k = refl

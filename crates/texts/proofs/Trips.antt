@@ -27,18 +27,19 @@ use Rattle.files.proofs.Parts.{part-front}
 use Rattle.files.proofs.Kept.{Filed, filed}
 use Rattle.rules.specs.declared.Credential.{Credential}
 use Rattle.rules.specs.declared.Session.{Session}
+use Rattle.rules.specs.declared.Response.{Response}
 use Rattle.rules.specs.declared.Card.{Card}
 use Rattle.rules.specs.Calls.{answer}
 use Rattle.rules.specs.Words.{allOf, same}
-use Rattle.rules.specs.State.{Which, device, admin, user, whiches, numberOf, noCredential, credential, valueOf, challenge}
-use Rattle.rules.specs.Sound.{goodValue, soundValue, goodChallenge, soundChallenge, sound}
-use Rattle.rules.proofs.Good.{Good, Tried, numbered, sound-good, sound-parted, sound-both, said-short}
+use Rattle.rules.specs.State.{Which, device, admin, user, whiches, numberOf, noCredential, credential, valueOf, challenge, responseSize, waitCount}
+use Rattle.rules.specs.Sound.{goodValue, soundValue, goodChallenge, soundChallenge, soundResponse, sound}
+use Rattle.rules.proofs.Good.{Good, Tried, numbered, sound-good, sound-parted, sound-both, said-short, responded}
 use Rattle.rules.proofs.Equal.{same-equal, equal-same}
 use Rattle.texts.specs.Text.{credentialLine, credentialLines, currentFid, fidBytes, sessionLine, filesText, text}
-use Rattle.texts.specs.Reading.{skips, currentIn, credentialIn, sessionIn, bytesIn, directoryOf, sessionPart, filesPart, directoryIn, cardIn, areaIn, laid}
+use Rattle.texts.specs.Reading.{skips, currentIn, credentialIn, sessionIn, responseIn, bytesIn, directoryOf, sessionPart, filesPart, directoryIn, cardIn, areaIn, laid}
 use Rattle.texts.specs.Calls.{toText, wrote, Got, fromText, got, accepted, kept}
 use Rattle.texts.specs.Laws.{Bytes, FileBytes, SoundCard, WrittenRead, ReadWritten}
-use Rattle.texts.proofs.Cards.{Front, credential-end, credential-back, each-kept, session-end, session-back, bytes-nil, fid-bytes}
+use Rattle.texts.proofs.Cards.{Front, credential-end, credential-back, each-kept, session-end, session-back, response-back, bytes-nil, fid-bytes}
 use Rattle.texts.proofs.Contents.{AllTold, files-back, bytes-back, text-front, laid-front, laid-length, drop-replicate, bytes-take}
 use Rattle.texts.proofs.Counts.{told}
 
@@ -133,17 +134,22 @@ tries-low x held k =
     let h : x .tries .limit ≤ 128 = leb-true _ _ (b .1) in
     (h, omega (arith, h, k .few))
 
-value-front : (n : ℕ) (x : Credential) → soundValue n x ≡ true → Bytes (x .value) → Front (x .len) (x .value)
+value-front : (n : ℕ) (x : Credential) → soundValue n x ≡ true → Bytes (x .value) → Front 16 (x .len) (x .value)
 unfolding soundValue
 value-front n x h b =
     let e = each (eqb (length (x .value)) 16 ∷ leb (x .len) 16 ∷ goodValue n (valueOf x) ∷ allOf isZero (drop (x .len) (x .value)) ∷ []) h in
     record { places = eqb-true _ _ (e .0); few = leb-true _ _ (e .1 .0); tail = e .1 .1 .1; bytes = bytes-take (x .len) (x .value) b }
 
-challenge-front : (s : Session) → soundChallenge s ≡ true → Bytes (s .challenge) → Front (s .len) (s .challenge)
+challenge-front : (s : Session) → soundChallenge s ≡ true → Bytes (s .challenge) → Front 16 (s .len) (s .challenge)
 unfolding soundChallenge
 challenge-front s h b =
     let e = each (eqb (length (s .challenge)) 16 ∷ (isZero (s .len) || goodChallenge (s .len)) ∷ allOf isZero (drop (s .len) (s .challenge)) ∷ []) h in
     record { places = eqb-true _ _ (e .0); few = said-short (s .len) (e .1 .0); tail = e .1 .1; bytes = bytes-take (s .len) (s .challenge) b }
+
+response-front : (r : Response) → soundResponse r ≡ true → Bytes (r .bytes) → Front responseSize (waitCount r) (r .bytes)
+response-front r h b =
+    let k = responded r h in
+    record { places = k .size; few = k .few; tail = k .rest; bytes = bytes-take (waitCount r) (r .bytes) b }
 
 -- the front of an area, followed by anything
 front-part : (b n e : ℕ) (area z : List ℕ) → b + n ≤ e → e ≤ length area → part b n (take e area ++ z) ≡ part b n area
@@ -229,9 +235,14 @@ module _ (c : Card) (area : List ℕ) (ok : SoundCard c area) where
       (session-back c filesPage (g .all-kept) (λ w. omega (arith, g .credited (numberOf w) (numbered w) .low)) (current-short d (c .session .current)) (current-bytes d (c .session .current) (ok .card-bytes .files))
       (current-back d fd (c .session .current) (g .current)) (challenge-front (c .session) (g .challenge) (ok .card-bytes .challenge)))
 
+  response-is : responseIn (sessionPart (text c area)) ≡ c .response
+  response-is =
+      rw session-page
+      (response-back c filesPage (ok .card-bytes .response .mode) (ok .card-bytes .response .count2) (response-front (c .response) (g .response) (ok .card-bytes .response .bytes)))
+
   card-is : cardIn (text c area) ≡ c
   unfolding cardIn
-  card-is = rw (directory-is, credentials-are, session-is)
+  card-is = rw (directory-is, credentials-are, session-is, response-is)
 
   -- the text has the bytes of the files and no others
   text-kept : text c (kept c area) ≡ text c area

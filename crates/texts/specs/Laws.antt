@@ -8,6 +8,7 @@ use Rattle.files.specs.declared.File.{File}
 use Rattle.files.specs.Part.{over}
 use Rattle.files.specs.Directory.{fileAt}
 use Rattle.files.specs.Create.{areaSize}
+use Rattle.rules.specs.declared.Response.{Response}
 use Rattle.rules.specs.declared.Card.{Card}
 use Rattle.rules.specs.Calls.{answer}
 use Rattle.rules.specs.Words.{byte}
@@ -32,10 +33,17 @@ pub record FileBytes (f : File) : Type 0 where
   pub used1 : f .used1 < 256
   pub used2 : f .used2 < 256
 
+pub record ResponseBytes (r : Response) : Type 0 where
+  pub mode : r .mode < 256
+  pub count1 : r .count1 < 256
+  pub count2 : r .count2 < 256
+  pub bytes : Bytes (r .bytes)
+
 pub record CardBytes (c : Card) : Type 0 where
   pub values : (n : ℕ) → n < howMany → Bytes (credential c n .value)
   pub challenge : Bytes (c .session .challenge)
   pub files : (i : ℕ) → FileBytes (fileAt (c .directory .files) i)
+  pub response : ResponseBytes (c .response)
 
 -- a card and its area as the code may have them, sound
 pub record SoundCard (c : Card) (area : List ℕ) : Type 0 where
@@ -73,7 +81,7 @@ OneText =
 
 -- no sound card has a longer text
 abbrev pub longest : ℕ
-longest = 8886
+longest = 9401
 
 abbrev pub TextFits : Type 0
 TextFits = (c : Card) (area : List ℕ) → sound c area ≡ true → length (text c area) ≤ longest

@@ -18,9 +18,10 @@ use Rattle.files.specs.Create.{areaSize}
 use Rattle.rules.specs.declared.Tries.{Tries}
 use Rattle.rules.specs.declared.Credential.{Credential}
 use Rattle.rules.specs.declared.Session.{Session}
+use Rattle.rules.specs.declared.Response.{Response}
 use Rattle.rules.specs.declared.Card.{Card}
 use Rattle.rules.specs.Words.{byte, filled}
-use Rattle.rules.specs.State.{whiches, numberOf, howMany, credentialOf}
+use Rattle.rules.specs.State.{whiches, numberOf, howMany, credentialOf, responseSize, responseOf}
 use Rattle.texts.specs.Text.{linesFor}
 
 -- a tab or a newline ends a field
@@ -77,6 +78,10 @@ rightsIn s = map (λ w. small (skips (numberOf w) s)) whiches
 
 unfoldable pub sessionIn : Directory → List ℕ → Session
 sessionIn d s = sessionOf (rightsIn s) (currentIn d (hexIn 2 (skips howMany s))) (hexIn 16 (skips (suc howMany) s))
+
+-- the last two fields of the session's line
+unfoldable pub responseIn : List ℕ → Response
+responseIn s = responseOf (small (skips (howMany + 2) s)) (hexIn responseSize (skips (howMany + 3) s))
 
 -- a file with so many records held, or bytes used, and its newest place
 abbrev pub counted : File → ℕ → ℕ → File
@@ -149,7 +154,7 @@ abbrev pub sessionPart : List ℕ → List ℕ
 sessionPart s = skips (3 * howMany) s
 
 abbrev pub filesPart : List ℕ → List ℕ
-filesPart s = skips (howMany + 2) (sessionPart s)
+filesPart s = skips (howMany + 4) (sessionPart s)
 
 abbrev pub directoryIn : List ℕ → Directory
 directoryIn s = directoryOf (filesIn mostFiles areaSize (filesPart s))
@@ -159,6 +164,7 @@ cardIn s = record {
   credentials = map (λ w. credentialIn (skips (3 * numberOf w) s)) whiches;
   directory = directoryIn s;
   session = sessionIn (directoryIn s) (sessionPart s);
+  response = responseIn (sessionPart s);
 }
 
 -- area bytes past the last file are 00

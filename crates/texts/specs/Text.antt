@@ -1,4 +1,4 @@
--- The text of a card: lines, each ending in a newline, fields parted by tabs. Limits, tries, counts and places are decimal, all else is hex.
+-- The text of a card: lines, each ending in a newline, fields parted by tabs. Limits, tries, counts, places and the mode are decimal, all else is hex.
 use Prim.Native.Nat.{ℕ, zero, suc, _+_, _/_}
 use mathlib.Core.Bool.{cond}
 use mathlib.Core.List.{List, [], _∷_, _++_, map}
@@ -12,7 +12,7 @@ use Rattle.files.specs.Record.{bytesUsed}
 use Rattle.files.specs.Directory.{file, used}
 use Rattle.rules.specs.declared.Credential.{Credential}
 use Rattle.rules.specs.declared.Card.{Card}
-use Rattle.rules.specs.State.{Which, whiches, numberOf, credential, rightKept, valueOf, challenge}
+use Rattle.rules.specs.State.{Which, whiches, numberOf, credential, rightKept, valueOf, challenge, mode, waiting}
 
 -- the fields of a line
 unfoldable pub line : List (List ℕ) → List ℕ
@@ -41,9 +41,10 @@ currentFid d place = cond (isZero place) [] (fidBytes (file d place))
 abbrev pub right : Card → Which → List ℕ
 right c w = decimal (rightKept c (numberOf w))
 
--- rights, current FID or -, challenge or -
+-- rights, current FID or -, challenge or -, mode, waiting bytes or -
 unfoldable pub sessionLine : Card → List ℕ
-sessionLine c = line (map (right c) whiches ++ (orDash (currentFid (c .directory) (c .session .current)) ∷ orDash (challenge c) ∷ []))
+sessionLine c =
+    line (map (right c) whiches ++ (orDash (currentFid (c .directory) (c .session .current)) ∷ orDash (challenge c) ∷ decimal (mode c) ∷ orDash (waiting c) ∷ []))
 
 -- type, two size bytes, two rights bytes
 abbrev pub createBytes : File → List ℕ

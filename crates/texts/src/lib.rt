@@ -6,4 +6,4 @@ mod text; // text.rt: the lines of a card
 pub mod calls; // calls.rt: the writer and the reader
 
 // The longest text that a sound card has.
-pub const TEXT_SIZE: usize = 8886;
+pub const TEXT_SIZE: usize = 9401;

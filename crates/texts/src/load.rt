@@ -6,7 +6,7 @@ ghost use lib.Dec.{leb};
 ghost use lib.ListN.{length, drop};
 ghost use Rattle.files.specs.Words.{every};
 ghost use Rattle.files.specs.Create.{areaSize};
-ghost use Rattle.texts.specs.Reading.{hexIn, triesIn, credentialIn, currentIn, rightsIn, sessionIn, counted, fileIn, lengthFor, Loads, LoadsAll, LoadsCard};
+ghost use Rattle.texts.specs.Reading.{hexIn, triesIn, credentialIn, currentIn, rightsIn, sessionIn, responseIn, counted, fileIn, lengthFor, Loads, LoadsAll, LoadsCard};
 use crate::scan::fields;
 use crate::scan::from;
 use crate::scan::hex_in;
@@ -14,6 +14,7 @@ use crate::scan::number_in;
 use crate::scan::pairs_in;
 use crate::scan::skips;
 use crate::scan::small_in;
+use card::state::response_of;
 use files::Directory;
 use files::File;
 use files::and_or::both;
@@ -30,6 +31,8 @@ use files::state::with_used;
 use rules::CREDENTIALS;
 use rules::Card;
 use rules::Credential;
+use rules::RESPONSE_SIZE;
+use rules::Response;
 use rules::Session;
 use rules::Tries;
 
@@ -85,6 +88,16 @@ fn session_in(d: Directory, s: &[u8]) -> Session
         challenge,
         len: n as u8,
     }
+}
+
+// The mode, and the bytes that wait.
+fn response_in(s: &[u8]) -> Response
+    ensures { λ r. ⌜ r ≡ responseIn (now (s .entry)) ⌝ }
+{
+    let mode = small_in(fields(s, CREDENTIALS + 2));
+    let mut waiting = [0u8; RESPONSE_SIZE];
+    let n = hex_in(fields(s, CREDENTIALS + 3), &mut waiting);
+    response_of(mode, &waiting[..n])
 }
 
 // With so many records held, or bytes used, and its newest place.
@@ -175,11 +188,13 @@ pub(crate) fn card_in(s: &[u8], image: &mut [u8]) -> Card
     let user = credential_in(fields(s, 6));
     let credentials = [device, admin, user];
     let rest = fields(s, 3 * CREDENTIALS);
-    let directory = files_in(fields(rest, CREDENTIALS + 2), image);
+    let directory = files_in(fields(rest, CREDENTIALS + 4), image);
     let session = session_in(directory, rest);
+    let response = response_in(rest);
     Card {
         credentials,
         directory,
         session,
+        response,
     }
 }

@@ -1,14 +1,14 @@
 // The lines of a card.
 ghost use mathlib.Core.Path.{_≡_};
 ghost use mathlib.Core.Bool.{cond};
-ghost use mathlib.Core.List.{_++_};
+ghost use mathlib.Core.List.{[], _∷_, _++_};
 ghost use lib.ListN.{length, take, getD};
 ghost use Prim.Native.Nat.{_+_, _<_, min};
 ghost use Rattle.digits.specs.Digits.{tab, newline, ended, decimal, hexOf, orDash};
 ghost use Rattle.files.specs.Words.{isZero, Bounded};
 ghost use Rattle.files.specs.Directory.{used, fileAt};
-ghost use Rattle.rules.specs.State.{howMany};
-ghost use Rattle.texts.specs.Text.{credentialLine, credentialLines, sessionLine, heldOrUsed, fileLine, contents, filesText, text};
+ghost use Rattle.rules.specs.State.{howMany, waitCount};
+ghost use Rattle.texts.specs.Text.{line, credentialLine, credentialLines, sessionLine, heldOrUsed, fileLine, contents, filesText, text};
 ghost use Rattle.texts.specs.Page.{Draws};
 use crate::draw::front_field;
 use crate::draw::hex_field;
@@ -19,6 +19,7 @@ use digits::NEWLINE;
 use digits::TAB;
 use files::Directory;
 use files::File;
+use files::numbers::two;
 use files::numbers::wide;
 use files::places::file;
 use files::places::used;
@@ -29,6 +30,7 @@ use rules::ADMIN;
 use rules::Card;
 use rules::Credential;
 use rules::DEVICE;
+use rules::Response;
 use rules::Session;
 use rules::USER;
 
@@ -59,10 +61,20 @@ fn put_right(out: &mut [u8], at: usize, s: Session, n: usize) -> usize
 }
 
 fn put_challenge(out: &mut [u8], at: usize, s: Session) -> usize
-    ensures { λ r. ⌜ Draws (ended newline (orDash (take (s .len) (s .challenge)))) (now (out .entry)) at r (now (out .exit)) ⌝ }
+    ensures { λ r. ⌜ Draws (ended tab (orDash (take (s .len) (s .challenge)))) (now (out .entry)) at r (now (out .exit)) ⌝ }
 {
     let challenge = s.challenge;
-    front_field(out, at, &challenge, wide(s.len), NEWLINE)
+    front_field(out, at, &challenge, wide(s.len), TAB)
+}
+
+// Mode, and the bytes that wait.
+fn put_response(out: &mut [u8], at: usize, x: Response) -> usize
+    ensures { λ r. ⌜ Draws (line (decimal (x .mode) ∷ orDash (take (waitCount x) (x .bytes)) ∷ [])) (now (out .entry)) at r (now (out .exit)) ⌝ }
+{
+    let bytes = x.bytes;
+    let n = two(x.count1, x.count2);
+    let a = number_field(out, at, x.mode as u16, TAB);
+    front_field(out, a, &bytes, n, NEWLINE)
 }
 
 fn put_session(out: &mut [u8], at: usize, card: Card) -> usize
@@ -76,7 +88,8 @@ fn put_session(out: &mut [u8], at: usize, card: Card) -> usize
     let b = put_right(out, a, session, ADMIN);
     let c = put_right(out, b, session, USER);
     let d = front_field(out, c, &fid, n, TAB);
-    put_challenge(out, d, session)
+    let e = put_challenge(out, d, session);
+    put_response(out, e, card.response)
 }
 
 // Records held; of type 2C the bytes used.

@@ -98,6 +98,12 @@ enum-told-13 c = c .match .keys13
 quietly-requires : tie.Need-quietly-requires
 quietly-requires c κs = tt
 
+enum-told-14 : tie.Need-enum-told-14
+enum-told-14 c = c .match .keys14
+
+quietly-requires-2 : tie.Need-quietly-requires-2
+quietly-requires-2 c κs = tt
+
 returns : tie.Need-returns
 unfolding checks effectOf rule
 returns c = let s = c .before .before .before .before .before .before .before in
@@ -230,6 +236,14 @@ returns-13 c = let s = c .before .before .before .before .before .before .before
     rw (c .before .enum-told13 .given .1)
     (quiet (now (a .random)) (now (a .area)) (now (a .reply)) (answers 0x6D00 (a .card)) (c .quietly .result) refl (c .quietly .ensures))
 
+returns-14 : tie.Need-returns-14
+unfolding checks effectOf rule
+returns-14 c = let s = c .before .before .before .before .before .before .before in
+    let a = s .args in
+    let k = (commandOf (a .h) (now (a .given))) in
+    rw (c .before .enum-told14 .given .1)
+    (quiet (now (a .random)) (now (a .area)) (now (a .reply)) (answers 0x6D00 (a .card)) (c .quietly2 .result) refl (c .quietly2 .ensures))
+
 pub obeyed-spec : {M : Type 1} → statement M
 obeyed-spec =
     tie.close
@@ -260,6 +274,8 @@ obeyed-spec =
     get-challenge-requires
     enum-told-13
     quietly-requires
+    enum-told-14
+    quietly-requires-2
     returns
     same-length
     same-length-2
@@ -281,4 +297,5 @@ obeyed-spec =
     returns-11
     same-length-9
     returns-12
-    returns-13)
+    returns-13
+    returns-14)

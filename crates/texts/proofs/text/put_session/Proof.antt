@@ -1,6 +1,6 @@
 -- `texts::text::put_session` meets its contract. Assumes nothing.
 use Rattle.texts.specs.Text.{sessionLine}
-use Rattle.texts.proofs.Drawing.{line-more, line-last, front-as, current-front}
+use Rattle.texts.proofs.Drawing.{line-more, front-as, current-front}
 use native.Mathlib.Omega.{arith}
 use borrow.Author.Needs.{needs}
 use Rattle.texts.proofs.text.put_session.Statement.{statement}
@@ -30,12 +30,28 @@ front-field-requires c κs = tt
 put-challenge-requires : tie.Need-put-challenge-requires
 put-challenge-requires c κs = tt
 
+put-response-requires : tie.Need-put-response-requires
+put-response-requires c κs = tt
+
 same-length : tie.Need-same-length
-same-length c = omega (arith, c .before .before .before .before .before .before .before .before .before .before .before .before .before .before .before .before .before .before .out .given, c .before .before .before .before .before .before .before .before .before .before .before .before .before .before .out2 .given, c .before .before .before .before .before .before .before .before .before .before .out3 .given, c .before .before .before .before .before .out4 .given, c .before .out5 .given)
+same-length c = omega (arith, c .before .before .before .before .before .before .before .before .before .before .before .before .before .before .before .before .before .before .before .before .before .before .out .given, c .before .before .before .before .before .before .before .before .before .before .before .before .before .before .before .before .before .before .out2 .given, c .before .before .before .before .before .before .before .before .before .before .before .before .before .before .out3 .given, c .before .before .before .before .before .before .before .before .before .out4 .given, c .before .before .before .before .before .out5 .given, c .before .out6 .given)
 
 returns : tie.Need-returns
 unfolding sessionLine
-returns c = line-more _ _ _ _ _ _ (c .before .before .before .before .before .before .before .before .before .before .before .before .before .before .before .before .before .before .before .put-right .ensures) (line-more _ _ _ _ _ _ (c .before .before .before .before .before .before .before .before .before .before .before .before .before .before .before .put-right2 .ensures) (line-more _ _ _ _ _ _ (c .before .before .before .before .before .before .before .before .before .before .before .put-right3 .ensures) (line-more _ _ _ _ _ _ (front-as _ _ _ _ _ (c .before .before .before .before .before .before .front-field .ensures) (current-front (c .before .before .before .before .before .before .before .before .before .before .before .before .before .before .before .before .before .before .before .before .before .before .before .before .before .args .card .directory) (c .before .before .before .before .before .before .before .before .before .before .before .before .before .before .before .before .before .before .before .before .before .before .before .before .before .args .card .session .current) _ _ (c .before .before .before .before .before .before .before .before .before .before .before .before .before .before .before .before .before .before .before .before .before .before .file .ensures) (c .before .before .before .before .before .before .before .before .before .before .before .before .before .before .before .before .before .before .before .before .before .fid-length .ensures .is))) (line-last _ _ _ (c .before .before .put-challenge .ensures)))))
+returns c = line-more _ _ _ _ _ _ (c .before .before .before .before .before .before .before .before .before .before .before .before .before .before .before .before .before .before .before .before .before .before .before .put-right .ensures) (line-more _ _ _ _ _ _ (c .before .before .before .before .before .before .before .before .before .before .before .before .before .before .before .before .before .before .before .put-right2 .ensures) (line-more _ _ _ _ _ _ (c .before .before .before .before .before .before .before .before .before .before .before .before .before .before .before .put-right3 .ensures) (line-more _ _ _ _ _ _ (front-as _ _ _ _ _ (c .before .before .before .before .before .before .before .before .before .before .front-field .ensures) (current-front (c .before .before .before .before .before .before .before .before .before .before .before .before .before .before .before .before .before .before .before .before .before .before .before .before .before .before .before .before .before .args .card .directory) (c .before .before .before .before .before .before .before .before .before .before .before .before .before .before .before .before .before .before .before .before .before .before .before .before .before .before .before .before .before .args .card .session .current) _ _ (c .before .before .before .before .before .before .before .before .before .before .before .before .before .before .before .before .before .before .before .before .before .before .before .before .before .before .file .ensures) (c .before .before .before .before .before .before .before .before .before .before .before .before .before .before .before .before .before .before .before .before .before .before .before .before .before .fid-length .ensures .is))) (line-more _ _ _ _ _ _ (c .before .before .before .before .before .before .put-challenge .ensures) (c .before .before .put-response .ensures)))))
 
 pub put-session-spec : {M : Type 1} → statement M
-put-session-spec = tie.close (tie.spec file-requires fid-length-requires put-right-requires put-right-requires-2 put-right-requires-3 slice-aggregate-front-field front-field-requires put-challenge-requires same-length returns)
+put-session-spec =
+    tie.close
+    (tie.spec
+    file-requires
+    fid-length-requires
+    put-right-requires
+    put-right-requires-2
+    put-right-requires-3
+    slice-aggregate-front-field
+    front-field-requires
+    put-challenge-requires
+    put-response-requires
+    same-length
+    returns)
