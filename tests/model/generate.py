@@ -934,6 +934,8 @@ class Generator:
     def read_all(self):
         """The whole card, as far as it may be read: what an earlier command damaged shows here."""
         for file in list(self.card.files):
+            if all(there.fid != file.fid for there in self.card.files):
+                return  # a line put in between issued another card
             if file.kind == cards.BINARY:
                 self.obtain(file.read)
                 if cards.is_allowed(self.card, file.read):
