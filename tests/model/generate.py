@@ -227,16 +227,16 @@ class Generator:
         if dice.chance(0.05):
             self.get_response(mistakes)
 
+    def line_between(self, kind):
+        """A line that is no command, by its number: 0 to 2."""
+        return b"RESET" if kind == 0 else self.bad_line() if kind == 1 else self.refused_issue()
+
     def disturb(self):
         """Something while data wait, and then GET RESPONSE: calls that are not served keep them, all others discard them."""
         dice = self.dice
         kind = dice.below(9)
-        if kind == 0:
-            self.put(b"RESET")
-        elif kind == 1:
-            self.put(self.bad_line())
-        elif kind == 2:
-            self.put(self.refused_issue())
+        if kind < 3:
+            self.put(self.line_between(kind))
         elif kind == 3:
             self.put(b"CMD\t00200001\t" + hex_of(dice.bytes(dice.pick((0, 15, 17)))))
         else:
@@ -382,12 +382,8 @@ class Generator:
         """Something between a challenge and its use: some of these keep the challenge, most drop it."""
         dice = self.dice
         kind = dice.below(14)
-        if kind == 0:
-            self.put(b"RESET")
-        elif kind == 1:
-            self.put(self.bad_line())
-        elif kind == 2:
-            self.put(self.refused_issue())
+        if kind < 3:
+            self.put(self.line_between(kind))
         elif kind == 3:
             # Outcome 3 leaves the challenge as it is.
             self.put(b"CMD\t0084000008\t" + hex_of(dice.bytes(dice.pick((0, 15, 17)))))

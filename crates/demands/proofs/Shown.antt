@@ -1,7 +1,7 @@
 -- Bytes that wait are shown by the command that made them wait.
 use Prim.Native.Nat.{ℕ, _+_, _≤_, min}
 use mathlib.Core.Bool.{Bool, true, false, cond}
-use mathlib.Core.List.{List, [], _∷_, _++_}
+use mathlib.Core.List.{List, [], _∷_, _++_, append-nil}
 use mathlib.Core.Logic.{_⊎_, inl, inr, ⊎-elim, by-cases}
 use native.Mathlib.Decide.{decLe}
 use mathlib.Core.Path.{_≡_, refl, sym, ap, _∙_}
@@ -39,7 +39,6 @@ use Rattle.demands.specs.Response.{PutByRead, PutByChallenge, LeftOf, Pu
 use Rattle.demands.proofs.Rows.{Fair, FairTouch, by-rule}
 use Rattle.demands.proofs.Delivered.{at-once-response, fetched-by, step-by}
 use Rattle.demands.proofs.Soundness.{waiting-few}
-use Rattle.demands.proofs.Waiting.{nothing-behind}
 use Rattle.demands.proofs.Live.{Live, after-live, command-is, reset-is}
 use Rattle.demands.proofs.Follows.{Agree, follows}
 use Rattle.demands.proofs.History.{right-told}
@@ -110,7 +109,7 @@ module _ (c : Card) (area : List ℕ) (live : Live (world c area)) (i : Ins) (k 
   touch-source (changes w d) random q = none _ _
   touch-source (reloads w d) random q = none _ _
   touch-source (challenges n) random q =
-      inr (inr (ap (λ z. take n random ++ z) (nothing-shown area) ∙ nothing-behind (take n random), omega (arith, length-take n random, said-short n (either (isZero n) q))))
+      inr (inr (ap (λ z. take n random ++ z) (nothing-shown area) ∙ append-nil (take n random), omega (arith, length-take n random, said-short n (either (isZero n) q))))
 
 -- the command at once: where its data come from
 module _ (c : Card) (area : List ℕ) (live : Live (world c area)) (l : Ledger) (agree : Agree c l) (cmd random : List ℕ) where
