@@ -54,14 +54,31 @@ need() {
     fi
 }
 
+# cited_by CRATE: has `crates` be those of this repository that the crate cites, and then the crate.
+cited_by() {
+    local name cited crate
+    crates=()
+    while IFS=: read -r name cited; do
+        [ "$name" = "$1" ] || continue
+        for crate in $cited "$name"; do
+            [ ! -d "crates/$crate" ] || crates+=("$crate") # the others are the kit's
+        done
+    done <crates.txt
+}
+
+# is_old FILE CRATE: whether FILE, which rt builds of the crate, is missing or older than what it is proved and built from.
+is_old() {
+    local crates
+    cited_by "$2"
+    [ ! -e "$1" ] || [ -n "$(find crates.txt "${crates[@]/#/crates/}" -type f ! -path '*/must-fail/*' -newer "$1" -print -quit)" ]
+}
+
 # logged WHO CRATE LOG COMMAND...: runs a command that has rt prove CRATE, and no second one beside it, since rt keeps none away.
 # What it prints goes to LOG. WHO tells of each crate as it is begun and proved and, where the command fails, the errors in LOG.
 # The exit status is the command's.
 logged() {
-    local who=$1 log=$3 crate crates=() status=1
-    for crate in $(sed -n "s/^$2://p" crates.txt) "$2"; do
-        [ ! -d "crates/$crate" ] || crates+=("$crate") # the others are the kit's
-    done
+    local who=$1 log=$3 crate crates status=1
+    cited_by "$2"
     shift 3
     mkdir -p target/log "${log%/*}" || return
     {
@@ -94,14 +111,7 @@ logged() {
     return "$status"
 }
 
-# library_is_old: whether there is no library for C, or one older than the code of its crate and of those that it cites.
-library_is_old() {
-    local crate sources=()
-    for crate in limpetnook $(sed -n 's/^limpetnook://p' crates.txt); do
-        sources+=("crates/$crate/src")
-    done
-    [ ! -e $library ] || [ -n "$(find "${sources[@]}" -newer $library -print -quit)" ]
-}
+library_is_old() { is_old $library limpetnook; }
 
 # build_library: the prover makes it, which takes a while, so only where that is needed.
 build_library() {
