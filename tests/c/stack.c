@@ -12,9 +12,9 @@
 
 #include "play.h"
 
-enum { ROOM = 256 * 1024, FILL = 0xA5 };
+enum { ROOM = 64 * 1024, PART = 1024, FILL = 0xA5 };
 
-static uint8_t stack[ROOM];
+static uint8_t stack[ROOM], filled[PART];
 static ucontext_t caller, apart;
 static struct player player;
 static const struct line *playing;
@@ -56,12 +56,11 @@ static void read_apart(void)
     limpet_from_text((struct limpet_card *)card, area, sizeof area, text, text_count);
 }
 
-/* The stack grows down, so the first byte that changed is the deepest. */
+/* The stack grows down, so the first byte that changed is the deepest. From it on the stack is filled again. */
 static size_t stack_of(void (*does)(void))
 {
     size_t untouched = 0;
 
-    memset(stack, FILL, sizeof stack);
     if (getcontext(&apart) != 0)
         exit(2);
     apart.uc_stack.ss_sp = stack;
@@ -70,8 +69,15 @@ static size_t stack_of(void (*does)(void))
     makecontext(&apart, does, 0);
     if (swapcontext(&caller, &apart) != 0)
         exit(2);
+    while (untouched < sizeof stack && memcmp(stack + untouched, filled, sizeof filled) == 0)
+        untouched += sizeof filled;
     while (untouched < sizeof stack && stack[untouched] == FILL)
         untouched++;
+    if (untouched == 0) {
+        fputs("stack: a call took more than there is\n", stderr);
+        exit(2);
+    }
+    memset(stack + untouched, FILL, sizeof stack - untouched);
     return sizeof stack - untouched;
 }
 
@@ -97,6 +103,8 @@ int main(int count, char **arguments)
         usage(count == 2 && strcmp(arguments[1], "--help") == 0 ? stdout : stderr);
         return count == 2 && strcmp(arguments[1], "--help") == 0 ? EXIT_SUCCESS : 2;
     }
+    memset(stack, FILL, sizeof stack);
+    memset(filled, FILL, sizeof filled);
     size_t own = stack_of_line(&no_call);
     struct played *script = read_script(stdin, &lines);
     for (size_t i = 0; i < lines; i++) {
