@@ -39,8 +39,11 @@ def refused_script(name, says, text, *words):
 
 
 def arguments():
-    status, out, err = run("--help")
-    check("--help", status == 0 and out.startswith("usage: ") and err == "", (status, err))
+    for option in ("--help", "-h"):
+        status, out, err = run(option)
+        check(option, status == 0 and out.startswith("usage: ") and err == "", (status, err))
+        front = subprocess.run([os.path.join(ROOT, "reader", "run"), option], capture_output=True, text=True, timeout=SECONDS)
+        check(f"reader/run {option} is the program's", (front.returncode, front.stdout, front.stderr) == (0, out, ""))
     for words in ([], ["a", "b"], ISSUE_WORDS[:5], [*ISSUE_WORDS, "0", "x"], ["--port"], ["--port", "0", "x"],
                   ["--port", "65536", "x"], ["--port", "7x", "x"], ["--colour", "x"], ["--card"], ["--card", "x", "a", "b"],
                   ["--card", "x", *ISSUE_WORDS, "0", "x"], ["--mode"], ["--mode", "2", "x"], ["--mode", "01", "x"],

@@ -133,6 +133,11 @@ take() {
     x86_64-linux-gnu-ld -r --gc-sections -u "$1" -e "$1" $library -o "$2" && x86_64-linux-gnu-strip --strip-unneeded "$2"
 }
 
+# usage_of SOURCE: the `usage` of a program in C, for which nothing has to be built.
+usage_of() {
+    sed -n '/^static const char usage\[\] =$/,/;$/s/^    "\(.*\)\\n";\{0,1\}$/\1/p' "$1"
+}
+
 # The program of reader/, over $library.
 build_reader() {
     if [ ! -e $reader ] || [ -n "$(find reader include $library -type f -newer $reader -print -quit)" ]; then
