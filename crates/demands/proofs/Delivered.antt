@@ -1,8 +1,8 @@
 -- A step by its mode: the command at once, its data kept waiting, or GET RESPONSE.
 use Prim.Native.Nat.{ℕ, _≤_}
-use mathlib.Core.Bool.{Bool, true, false, not, _&&_, cond}
+use mathlib.Core.Bool.{true, false, not}
 use mathlib.Core.List.{List, [], _∷_, _++_}
-use mathlib.Core.Path.{_≡_, refl, sym, ap, _∙_}
+use mathlib.Core.Path.{_≡_, refl}
 use native.Mathlib.Omega.{arith}
 use lib.Dec.{eqb}
 use lib.ListN.{length}
@@ -13,17 +13,18 @@ use Rattle.files.specs.Part.{part}
 use Rattle.files.proofs.Checks.{split, each}
 use Rattle.rules.specs.declared.Card.{Card}
 use Rattle.rules.specs.declared.Ins.{Ins}
-use Rattle.rules.specs.declared.Response.{Response}
 use Rattle.rules.specs.Words.{first, same}
 use Rattle.rules.specs.State.{marked, mode, waiting, logins, challenge}
-use Rattle.rules.specs.Frame.{Command, framed, frameSw, classSw}
+use Rattle.rules.specs.Frame.{Command, framed}
 use Rattle.rules.specs.Effect.{Deed, turns, shows, stores, appends, makes, Touch, nothing, presents, changes, reloads, challenges, Effect, answers}
 use Rattle.rules.specs.Pins.{comparedAt}
 use Rattle.rules.specs.Record.{recordFound}
 use Rattle.rules.specs.List.{listed, isGetResponse, Rule, ofFiles, ofCredentials, rule}
 use Rattle.rules.specs.Response.{fetchCount, getResponseChecks, fetches}
-use Rattle.rules.specs.Step.{checksOf, did, touched, effectBy, checks, effectOf, ruled, outcome, Stepped, settled, atOnce, waits, gives, unchanged, fetchSw, fetched, step}
+use Rattle.rules.specs.Step.{did, touched, effectBy, checks, effectOf, outcome, Stepped, settled, atOnce, waits, gives, unchanged, fetchSw, fetched, step}
 use Rattle.rules.proofs.Checks.{ruled-by}
+use Rattle.demands.specs.Ledger.{passes}
+use Rattle.demands.proofs.Rows.{ruledBy}
 
 -- no command touches the mode or what waits
 module _ (c : Card) where
@@ -43,20 +44,14 @@ module _ (c : Card) where
   touched-response (challenges n) random = refl
 
   module _ (i : Ins) (l : Located) (k : Command) (random : List ℕ) where
-    abbrev ruledBy : Rule → Effect
-    ruledBy r = ruled (first (frameSw k ∷ classSw k ∷ first (checksOf r c l k) ∷ [])) c (effectBy r c l k random)
-
-    abbrev passing : Rule → Bool
-    passing r = eqb (first (frameSw k ∷ classSw k ∷ first (checksOf r c l k) ∷ [])) 0x9000
-
     outcome-response : outcome i c l k random .card .response ≡ c .response
     unfolding outcome effectOf checks
     outcome-response = go (rule i)
       where
-        go : (r : Rule) → ruledBy r .card .response ≡ c .response
-        go (ofFiles t d) = split (λ (e : Effect). e .card .response ≡ c .response) (passing (ofFiles t d)) (λ e. did-response (d c l k)) (λ e. refl)
+        go : (r : Rule) → ruledBy r c l k random .card .response ≡ c .response
+        go (ofFiles t d) = split (λ (e : Effect). e .card .response ≡ c .response) (passes (t c l k) k) (λ e. did-response (d c l k)) (λ e. refl)
         go (ofCredentials t d) =
-            split (λ (e : Effect). e .card .response ≡ c .response) (passing (ofCredentials t d)) (λ e. touched-response (d (logins c) (challenge c) k) random) (λ e. refl)
+            split (λ (e : Effect). e .card .response ≡ c .response) (passes (t (logins c) (challenge c) k) k) (λ e. touched-response (d (logins c) (challenge c) k) random) (λ e. refl)
 
   pub at-once-response : (area cmd random : List ℕ) → atOnce c area cmd random .card .response ≡ c .response
   unfolding atOnce settled

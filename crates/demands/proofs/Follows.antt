@@ -16,16 +16,16 @@ use Rattle.rules.specs.declared.Tries.{Tries}
 use Rattle.rules.specs.declared.Card.{Card}
 use Rattle.rules.specs.declared.Ins.{Ins}
 use Rattle.rules.specs.declared.Response.{Response}
-use Rattle.rules.specs.Words.{first, same}
+use Rattle.rules.specs.Words.{same}
 use Rattle.rules.specs.Tries.{full as full-tries, lowered, restored}
 use Rattle.rules.specs.State.{Which, numberOf, howMany, mark, noCredential, credential, Login, Logins, loginAt, login, logins, challenge, credentialOf, withTries, withLoginAt, withValueAt, mode, responseSize, waiting, responseOf, withResponse, withWaiting}
-use Rattle.rules.specs.Frame.{Command, framed, frameSw, classSw}
+use Rattle.rules.specs.Frame.{Command, framed}
 use Rattle.rules.specs.Effect.{Deed, turns, shows, stores, appends, makes, Touch, nothing, presents, changes, reloads, challenges, Effect}
 use Rattle.rules.specs.Record.{recordFound}
 use Rattle.rules.specs.Pins.{comparedAt}
 use Rattle.rules.specs.List.{listed, Role, role, Rule, ofFiles, ofCredentials, rule}
 use Rattle.rules.specs.Response.{fetchCount, fetches}
-use Rattle.rules.specs.Step.{checksOf, did, touched, effectBy, checks, effectOf, ruled, outcome, Stepped, settled, atOnce, step}
+use Rattle.rules.specs.Step.{did, touched, checks, effectOf, outcome, Stepped, settled, atOnce, step}
 use Rattle.rules.specs.Calls.{Order, fresh}
 use Rattle.rules.proofs.Good.{numbered, filled-back, marked-mark, at-which, zero-at, sound-good}
 use Rattle.demands.specs.Ledger.{Event, sent, resets, Kind, other, right, wrong, changed, reloaded, ended, Page, valueSet, wrongSince, isHeld, told, Ledger, page, tells, passes, kind, kindIn, challenged, labelled, booked, isGetResponseIn, entered, servable, next, tell, ledger}
@@ -34,7 +34,7 @@ use Rattle.demands.specs.Follows.{ChallengeFollows}
 use Rattle.demands.proofs.Live.{Live, call-live, after-live, issue-fresh, command-is, reset-is}
 use Rattle.demands.proofs.Presented.{presented-is}
 use Rattle.demands.proofs.Labels.{Matches}
-use Rattle.demands.proofs.Rows.{kindOf, leftBy, Row, row}
+use Rattle.demands.proofs.Rows.{ruledBy, kindOf, leftBy, Row, row}
 use Rattle.demands.proofs.Framing.{response-by-bytes, response-named}
 use Rattle.demands.proofs.Delivered.{at-once-response, Fetch, fetched-by, step-by}
 use Rattle.demands.proofs.Made.{outcome-labels}
@@ -143,14 +143,11 @@ module _ (c : Card) (q : Full c) where
   did-says (makes f) = refl
 
   module _ (i : Ins) (l : Located) (k : Command) (random : List ℕ) where
-    abbrev ruledBy : Rule → Effect
-    ruledBy r = ruled (first (frameSw k ∷ classSw k ∷ first (checksOf r c l k) ∷ [])) c (effectBy r c l k random)
-
     outcome-login : (w : Which) → login w (outcome i c l k random .card) ≡ act (kind (role i) (logins c) (challenge c) k w) (login w c)
     unfolding outcome effectOf checks
     outcome-login w = go (rule i) (row i)
       where
-        go : (r : Rule) → Row i r → login w (ruledBy r .card) ≡ act (kind (role i) (logins c) (challenge c) k w) (login w c)
+        go : (r : Rule) → Row i r → login w (ruledBy r c l k random .card) ≡ act (kind (role i) (logins c) (challenge c) k w) (login w c)
         go (ofFiles t d) q =
             rw (q .kind-is (logins c) (challenge c) k w)
             (split (λ (e : Effect). login w (e .card) ≡ login w c) (passes (t c l k) k) (λ e. did-login (d c l k) w) (λ e. refl))
@@ -163,7 +160,7 @@ module _ (c : Card) (q : Full c) where
     unfolding outcome effectOf checks
     outcome-says = go (rule i) (row i)
       where
-        go : (r : Rule) → Row i r → ruledBy r .says ≡ challenged (role i) k random
+        go : (r : Rule) → Row i r → ruledBy r c l k random .says ≡ challenged (role i) k random
         go (ofFiles t d) q =
             rw (q .left-is k random) (split (λ (e : Effect). e .says ≡ []) (passes (t c l k) k) (λ e. did-says (d c l k)) (λ e. refl))
         go (ofCredentials t d) q =

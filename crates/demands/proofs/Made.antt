@@ -1,7 +1,7 @@
 -- The labels of the card's files after a command are those that the ledger enters.
 use Prim.Native.Nat.{ℕ, _+_, _-_, _<_}
 use mathlib.Core.Bool.{Bool, true, false, cond}
-use mathlib.Core.List.{List, [], _∷_}
+use mathlib.Core.List.{List}
 use mathlib.Core.Path.{_≡_, refl, ap, _∙_}
 use native.Mathlib.Omega.{arith}
 use lib.ListN.{length}
@@ -15,20 +15,20 @@ use Rattle.files.proofs.Kept.{filed}
 use Rattle.files.proofs.Making as making
 use Rattle.rules.specs.declared.Card.{Card}
 use Rattle.rules.specs.declared.Ins.{Ins}
-use Rattle.rules.specs.Words.{first, same}
+use Rattle.rules.specs.Words.{same}
 use Rattle.rules.specs.State.{logins, challenge}
 use Rattle.rules.specs.Sound.{sound}
-use Rattle.rules.specs.Frame.{Command, frameSw, classSw}
+use Rattle.rules.specs.Frame.{Command}
 use Rattle.rules.specs.Effect.{Deed, turns, shows, stores, appends, makes, Touch, nothing, presents, changes, reloads, challenges, Effect}
 use Rattle.rules.specs.Binary.{fileOf}
 use Rattle.rules.specs.Record.{recordFound}
 use Rattle.rules.specs.List.{role, Rule, ofFiles, ofCredentials, rule}
-use Rattle.rules.specs.Step.{checksOf, did, touched, effectBy, checks, effectOf, ruled, outcome}
+use Rattle.rules.specs.Step.{did, touched, checks, effectOf, outcome}
 use Rattle.rules.proofs.Good.{sound-good}
 use Rattle.demands.specs.Ledger.{Label, passes, labelled}
 use Rattle.demands.specs.Files.{labelOf}
 use Rattle.demands.proofs.Labels.{Matches, each-past, each-again, appended-label}
-use Rattle.demands.proofs.Rows.{Fair, labelsBy, all-passed, Row, row}
+use Rattle.demands.proofs.Rows.{ruledBy, Fair, labelsBy, all-passed, Row, row}
 use Rattle.demands.proofs.Files.{compare-by}
 
 -- where the checks pass, of which the one side is told, and where not
@@ -73,14 +73,11 @@ module _ (i : Ins) (c : Card) (area : List ℕ) (h : sound c area ≡ true) (k :
   touch-labels (reloads w bytes) = m
   touch-labels (challenges n) = m
 
-  abbrev ruledBy : Rule → Effect
-  ruledBy r = ruled (first (frameSw k ∷ classSw k ∷ first (checksOf r c (recordFound c area k) k) ∷ [])) c (effectBy r c (recordFound c area k) k random)
-
   pub outcome-labels : Matches (outcome i c (recordFound c area k) k random .card .directory) (labelled (role i) (logins c) made k)
   unfolding outcome effectOf checks
   outcome-labels = go (rule i) (row i)
     where
-      go : (r : Rule) → Row i r → Matches (ruledBy r .card .directory) (labelled (role i) (logins c) made k)
+      go : (r : Rule) → Row i r → Matches (ruledBy r c (recordFound c area k) k random .card .directory) (labelled (role i) (logins c) made k)
       go (ofFiles t x) q =
           rw (q .labels-are c area h made m k)
           (alike-told (λ (e : Effect) (y : List Label). Matches (e .card .directory) y) (passes (t c (recordFound c area k) k) k)

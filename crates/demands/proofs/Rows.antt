@@ -34,7 +34,7 @@ use Rattle.rules.specs.Pins.{whichOf, pinNamed, pinGiven, triesSw, digitsSw, ve
 use Rattle.rules.specs.Device.{authenticateChecks, getChallengeChecks}
 use Rattle.rules.specs.Create.{fileGiven, createChecks}
 use Rattle.rules.specs.List.{makesFile, role, Rule, ofFiles, ofCredentials, rule}
-use Rattle.rules.specs.Step.{checksOf, did, touched, effectBy, checks, effectOf, outcome}
+use Rattle.rules.specs.Step.{checksOf, did, touched, effectBy, checks, effectOf, ruled, outcome}
 use Rattle.rules.proofs.Checks.{Passed, passed, holds, ruled-by}
 use Rattle.rules.proofs.Good.{sound-good}
 use Rattle.rules.proofs.Targets.{not-zero, read-few, target-low, selected-low}
@@ -45,6 +45,10 @@ use Rattle.rules.proofs.Equal.{cryptogram-is}
 use Rattle.demands.specs.Ledger.{Kind, other, changed, reloaded, Label, passes, presented, about, kind, challenged, labelGiven, labelled}
 use Rattle.demands.specs.Files.{writesTo, readsFrom, labelOf}
 use Rattle.demands.proofs.Labels.{Matches, given-label, create-same}
+
+-- what comes of a command by its rule
+abbrev pub ruledBy : Rule → Card → Located → Command → List ℕ → Effect
+ruledBy r c l k random = ruled (first (frameSw k ∷ classSw k ∷ first (checksOf r c l k) ∷ [])) c (effectBy r c l k random)
 
 -- what a touch is to a credential, and the challenge that it leaves
 abbrev pub kindOf : Touch → Which → Kind

@@ -7,7 +7,7 @@ use mathlib.Core.Path.{_≡_, refl, sym, ap, _∙_}
 use native.Mathlib.Decide.{decLe}
 use native.Mathlib.Nat.{le-refl}
 use native.Mathlib.Omega.{arith}
-use lib.ListN.{length, drop, length-append, length-take, length-drop, length-replicate}
+use lib.ListN.{length, drop, length-append, length-take, length-replicate}
 use lib.Seq.{length-take-le}
 use borrow.Author.Tests.{eq-eqb}
 use Rattle.files.specs.declared.File.{File}
@@ -17,7 +17,7 @@ use Rattle.files.specs.State.{emptied}
 use Rattle.files.specs.Directory.{start, extent, used}
 use Rattle.files.specs.Record.{partedFile}
 use Rattle.files.specs.Create.{areaSize, created}
-use Rattle.files.proofs.Parts.{splice-length}
+use Rattle.files.proofs.Parts.{splice-length, over-length}
 use Rattle.files.proofs.Checks.{each, both, split}
 use Rattle.files.proofs.Extents.{file-set, used-is, place-is, lies}
 use Rattle.files.proofs.Appends.{cyclic-room}
@@ -235,10 +235,6 @@ step-reply c area cmd random h l b =
     (λ f. fetched-by (λ (s : Stepped). length (s .bytes) + 2 ≤ 258) c area (framed cmd)
     (λ q. omega (arith, w, length-take (fetchCount (length (waiting c)) (framed cmd)) (waiting c))) (λ sw. omega arith))
     (λ m f. omega arith) (λ m f. omega (arith, at-once-few c area cmd random h l b))
-
-over-length : (bytes buffer : List ℕ) → length bytes ≤ length buffer → length (over bytes buffer) ≡ length buffer
-unfolding over
-over-length bytes buffer h = simp (length-append, length-drop) (omega arith)
 
 pub command-sound : CommandSound
 command-sound c area cmd random reply h =

@@ -80,24 +80,6 @@ pub hex-end : (bytes : List ℕ) (i : ℕ) (p : Page) → length bytes ≤ i →
 unfolding hexOf draw
 hex-end bytes i p h = rw (drop-of-length-le bytes h)
 
-pub dash-none : (bytes : List ℕ) → length bytes ≡ 0 → 45 ∷ [] ≡ orDash bytes
-unfolding orDash
-dash-none [] h = refl
-dash-none (b ∷ bs) h = absurd (omega arith)
-
-pub dash-some : (bytes : List ℕ) → (length bytes ≡ 0 → ⊥) → hexOf bytes ≡ orDash bytes
-unfolding orDash
-dash-some [] h = absurd (h refl)
-dash-some (b ∷ bs) h = refl
-
--- five digits without the leading zeros
-pub five-from : (n a b c d e m : ℕ) → a ≡ lastDigit (n / 10000) → b ≡ lastDigit (n / 1000) → c ≡ lastDigit (n / 100) → d ≡ lastDigit (n / 10) → e ≡ lastDigit n → m ≡ places n
-    → take (5 - (5 - m)) (drop (5 - m) (a ∷ b ∷ c ∷ d ∷ e ∷ [])) ≡ decimal n
-unfolding decimal
-five-from n a b c d e m ha hb hc hd he hm =
-    let l : length (drop (5 - m) (a ∷ b ∷ c ∷ d ∷ e ∷ [])) ≤ 5 - (5 - m) = rw (length-drop (5 - m) (a ∷ b ∷ c ∷ d ∷ e ∷ [])) (omega arith) in
-    take-all (5 - (5 - m)) (drop (5 - m) (a ∷ b ∷ c ∷ d ∷ e ∷ [])) l ∙ rw (ha, hb, hc, hd, he, hm)
-
 -- the first n bytes
 pub front-as : (v w : List ℕ) (b : ℕ) (p q : Page) → q ≡ draw (ended b (orDash v)) p → v ≡ w → q ≡ draw (ended b (orDash w)) p
 front-as v w b p q e h = e ∙ ap (λ (x : List ℕ). draw (ended b (orDash x)) p) h
