@@ -130,13 +130,20 @@ def errors(output):
     return [line for line in output.splitlines() if re.match(r"\S+:\d+:\d+: error", line)]
 
 
+def cited(crate):
+    """The crates that crates.txt has behind a crate's name, those of the kit too."""
+    line = re.search(rf"^{crate}:(.*)$", read(ROOT, "crates.txt"), re.M)
+    return line[1].split()
+
+
 def is_proved(crate):
-    """Whether rt proved the crate after its files last changed."""
-    stamp = os.path.join(ROOT, "target", "stamp", crate)
-    if not os.path.exists(stamp) or not os.path.exists(os.path.join(RLIB, crate + ".rlib")):
+    """Whether rt proved the crate after its files last changed, and after those that it cites were proved."""
+    stamp, below = os.path.join(ROOT, "target", "stamp", crate), [one for one in cited(crate) if os.path.isdir(os.path.join(CRATES, one))]
+    if not os.path.exists(stamp) or not os.path.exists(os.path.join(RLIB, crate + ".rlib")) or not all(map(is_proved, below)):
         return False
     places = (os.path.join(CRATES, crate, part) for part in ("src", "specs", "proofs"))
-    files = (os.path.join(folder, name) for place in places for folder, _, names in os.walk(place) for name in names)
+    files = [os.path.join(folder, name) for place in places for folder, _, names in os.walk(place) for name in names]
+    files += [os.path.join(ROOT, "target", "stamp", one) for one in below]
     return all(os.path.getmtime(file) < os.path.getmtime(stamp) for file in files)
 
 
