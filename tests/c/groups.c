@@ -1,9 +1,10 @@
 #include "groups.h"
 
 #include <stdio.h>
+#include <stdlib.h>
 #include <string.h>
 
-bool is_short;
+bool is_short, ends_at_first;
 unsigned long one_in = 1;
 unsigned passed, failed;
 struct pattern patterns[SORTS];
@@ -15,6 +16,13 @@ struct group begin(const char *name)
     return (struct group){ name, wrongs, calls };
 }
 
+/* Where it is asked for, and something was wrong. */
+static void end_at_first(void)
+{
+    if (ends_at_first && wrongs > 0)
+        exit(EXIT_FAILURE);
+}
+
 void end(struct group g)
 {
     bool right = wrongs == g.wrongs;
@@ -22,6 +30,7 @@ void end(struct group g)
     printf("%s: %lu calls%s\n", g.name, calls - g.calls, right ? ", right" : ", NOT RIGHT");
     passed += right;
     failed += !right;
+    end_at_first();
 }
 
 void keep(struct pattern *p, const struct held *h)
@@ -109,6 +118,7 @@ void try_card(const struct pattern *p, bool all)
     hold_again(&h, p);
     watched_reset(&h);
     let_go(&h);
+    end_at_first();
 }
 
 bool is_one_bit(unsigned difference)

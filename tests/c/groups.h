@@ -14,6 +14,7 @@
 #include "watched.h"
 
 extern bool is_short;        /* fewer cases, for a run under valgrind */
+extern bool ends_at_first;   /* the program ends soon after the first thing that is wrong */
 extern unsigned long one_in; /* of so many spoiled cards or areas one is tried, for a run under an emulator */
 
 struct group {

@@ -18,7 +18,7 @@ static const struct pattern blank;
 
 static void usage(FILE *to)
 {
-    fputs("usage: refusals [--exact] [--short] [--one-in N]\n"
+    fputs("usage: refusals [--exact] [--short] [--first] [--one-in N]\n"
           "\n"
           "Tries calls on a card that must be refused, cards that are not sound, and areas\n"
           "that do not fit their card.\n"
@@ -27,6 +27,7 @@ static void usage(FILE *to)
           "  --exact     no guard bytes: each buffer is a heap block of its own and of its\n"
           "              exact size, for valgrind or the address sanitizer to watch\n"
           "  --short     fewer cases, for a run under valgrind\n"
+          "  --first     ends soon after the first thing that is wrong\n"
           "  --one-in N  of the spoiled cards and areas one in N, for a run under an emulator\n", to);
 }
 
@@ -305,6 +306,8 @@ static bool read_arguments(int count, char **arguments)
             lent_exactly = true;
         else if (strcmp(arguments[i], "--short") == 0)
             is_short = true;
+        else if (strcmp(arguments[i], "--first") == 0)
+            ends_at_first = true;
         else if (strcmp(arguments[i], "--one-in") == 0 && i + 1 < count) {
             char *rest;
             one_in = strtoul(arguments[++i], &rest, 10);
