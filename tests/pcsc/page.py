@@ -145,13 +145,13 @@ def says(remark, *words, **environment):
     check(f"{words[0]} says {remark}", remark in terminal.text and f"`{remark}`" in page, terminal.text)
 
 
-def scriptor_ends(remark, happens):
-    """scriptor is connected, something happens, and the next command ends it."""
+def scriptor_ends(remark, happens, line="00200001"):
+    """scriptor is connected, something happens, and the next line ends it."""
     scriptor = Scriptor()
-    happens()
-    scriptor.type("00200001")
+    happens(scriptor)
+    scriptor.type(line)
     Terminal.end(scriptor)
-    check(f"scriptor says {remark}", remark in scriptor.text and f"`{remark}`" in page, scriptor.text)
+    check(f"scriptor says {remark} at {line!r}", remark in scriptor.text and f"`{remark}`" in page, scriptor.text)
 
 
 def service():
@@ -171,12 +171,15 @@ def programs():
     says("No smart card readers found.", *opensc, **nowhere)
     says("pcscd is not running", "tools/alarms", **nowhere)
     with card("examples/box.script") as reader:
-        scriptor_ends("Card was reset.", OpenscTool().reset)
+        scriptor_ends("Card was reset.", lambda _: OpenscTool().reset())
+        for slip in ("00B2010C0", " 00B2010C00", "00B2010C00 ", "00 B2 010C00", "quit"):
+            scriptor_ends("ascii_to_array: wrong value", lambda scriptor: scriptor.send("0020000106313233343536"), slip)
+        check("a slip does not reset the card", reader.after_commands() == "power off", reader.said())
         scriptor = Scriptor()
         says("another program is using the card", "tools/alarms")
         scriptor.end()
 
-        def removed():
+        def removed(_):
             reader.end()
             wait_until(lambda: not card_present(), "the card's removal")
 
