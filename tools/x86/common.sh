@@ -23,7 +23,7 @@ fi
 # has PACKAGE: whether what is used here of that Debian package is there.
 has() {
     case $1 in
-    clang | gcc | g++ | openssl | pcscd | python3 | valgrind) command -v "$1" ;;
+    clang | debootstrap | gcc | g++ | openssl | pcscd | python3 | valgrind) command -v "$1" ;;
     gcc-x86-64-linux-gnu | g++-x86-64-linux-gnu) command -v "x86_64-linux-gnu-${1%%-*}" ;;
     libc6-dev) gcc -E -include stdio.h -x c /dev/null ;;
     libclang-rt-dev) test -e "$(clang -print-runtime-dir)/libclang_rt.fuzzer-x86_64.a" ;;
@@ -32,6 +32,7 @@ has() {
     libssl-dev) gcc -E -include openssl/evp.h -x c /dev/null ;;
     opensc) command -v opensc-tool ;;
     pcsc-tools) command -v scriptor && command -v ATR_analysis ;;
+    qemu-user-static) command -v qemu-aarch64-static ;;
     vsmartcard-vpcd) test -e /usr/lib/pcsc/drivers/serial/libifdvpcd.so ;;
     *) return 1 ;;
     esac >/dev/null 2>&1
