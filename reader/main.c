@@ -184,7 +184,7 @@ static int serve(uint16_t port, struct store *kept)
 
     if (connection < 0)
         return EXIT_FAILURE;
-    say("the card is in the reader on port %u", (unsigned)port);
+    vpcd_wait(connection, port);
     good = vpcd_serve(connection, kept);
     if (good)
         say("the reader was closed");

@@ -5,6 +5,7 @@
 #include <errno.h>
 #include <netinet/in.h>
 #include <netinet/tcp.h>
+#include <poll.h>
 #include <string.h>
 #include <sys/random.h>
 #include <sys/socket.h>
@@ -18,6 +19,8 @@ enum { POWER_OFF = 0, POWER_ON = 1, RESET = 2, GET_ATR = 4 };
 
 /* A message is two length bytes, high byte first, and a body. */
 enum { HEAD_SIZE = 2, BODY_MAX = 0xFFFF };
+
+enum { BEFORE_WORD = 3000, NO_END = -1 }; /* ms; vpcd speaks to a card that it has taken within a second */
 
 /* The end of both answers to reset. */
 #define HISTORY \
@@ -61,6 +64,33 @@ int vpcd_connect(uint16_t port)
         return -1;
     }
     return s;
+}
+
+/* Whether vpcd says something, or closes the connection, within that time. */
+static bool comes(int s, int ms)
+{
+    struct pollfd from = { .fd = s, .events = POLLIN };
+    int got;
+
+    do
+        got = poll(&from, 1, ms);
+    while (got < 0 && errno == EINTR);
+    return got != 0;
+}
+
+/* While another card is in the reader the system keeps the connection, and vpcd does not know of it. */
+void vpcd_wait(int s, uint16_t port)
+{
+    bool soon = comes(s, BEFORE_WORD);
+    uint8_t first;
+
+    if (!soon) {
+        say("vpcd has not taken the card yet: is another card in this reader? "
+            "End its reader/run, or give this one another port with --port");
+        comes(s, NO_END);
+    }
+    if (recv(s, &first, sizeof first, MSG_PEEK) > 0) /* none where it was closed */
+        say("the card is in the reader %son port %u", soon ? "" : "now, ", (unsigned)port);
 }
 
 /*

@@ -12,6 +12,9 @@
 /* Connects to 127.0.0.1. Returns the socket, or -1 and says why. */
 int vpcd_connect(uint16_t port);
 
+/* Waits until vpcd speaks to the card for the first time, and says that it is in the reader; or, where that takes long, why it may. */
+void vpcd_wait(int connection, uint16_t port);
+
 /*
  * Serves until vpcd closes the connection, which is a good end, or the connection breaks. Where the card is kept in a file, what a
  * command changed for good is in it before the answer goes out; kept: NULL where it is not.

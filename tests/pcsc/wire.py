@@ -8,6 +8,7 @@ import stat
 import subprocess
 import tempfile
 import threading
+import time
 
 from stack import (ADMIN_PIN, ISSUE_WORDS, KEY, READER, ROOT, SECONDS, UNSERVED, USER_PIN, X86, Reader, check, end, issue_line,
                    wait_until)
@@ -121,15 +122,20 @@ class Line:
 
 
 @contextlib.contextmanager
+def started(port, *words, program=READER):
+    reader = Reader(["--port", str(port), *(words or ISSUE_WORDS)], program)
+    try:
+        yield reader
+    finally:
+        reader.end()
+
+
+@contextlib.contextmanager
 def connected(*words, program=READER):
     with socket.create_server(("127.0.0.1", 0)) as server:
         server.settimeout(SECONDS)
-        reader = Reader(["--port", str(server.getsockname()[1]), *(words or ISSUE_WORDS)], program)
-        try:
-            with server.accept()[0] as connection:
-                yield Line(connection), reader
-        finally:
-            reader.end()
+        with started(server.getsockname()[1], *words, program=program) as reader, server.accept()[0] as connection:
+            yield Line(connection), reader
 
 
 def messages():
@@ -154,6 +160,35 @@ def messages():
         line.connection.close()
         check("closed between messages: a good end", reader.process.wait(SECONDS) == 0, reader.said())
         check("and it says so", reader.said().endswith("the reader was closed\n"), reader.said())
+
+
+def taken():
+    """vpcd speaks to a card that it has taken. A connection alone may be one that the system keeps while another card is in."""
+    is_in = "limpet-reader: the card is in the reader {}on port {}\n".format
+    not_yet = ("limpet-reader: vpcd has not taken the card yet: is another card in this reader? "
+               "End its reader/run, or give this one another port with --port\n")
+    with socket.create_server(("127.0.0.1", 0)) as server:
+        server.settimeout(SECONDS)
+        port = server.getsockname()[1]
+        with started(port) as first, server.accept()[0] as connection:
+            time.sleep(1)
+            check("connected: nothing is said yet", first.said() == "", first.said())
+            check("vpcd speaks", Line(connection).ask(GET_ATR).startswith("3B8A"))
+            check("and the card is in the reader", first.said() == is_in("", port), first.said())
+            with started(port) as second:
+                wait_until(second.said, "a word of the second card")
+                check("a second card is not in the reader", second.said() == not_yet, second.said())
+                check("the first goes on", Line(connection).ask(QUERY) == "63C3")
+                first.end()
+                with server.accept()[0] as next_one:
+                    time.sleep(4)
+                    check("that is said once", second.said() == not_yet, second.said())
+                    check("vpcd speaks to the second", Line(next_one).ask(QUERY) == "63C3")
+                    check("and it is in the reader now", second.said() == not_yet + is_in("now, ", port), second.said())
+    with connected() as (line, reader):
+        line.connection.close()
+        check("closed before a word: a good end", reader.process.wait(SECONDS) == 0, reader.said())
+        check("and no card was in the reader", reader.said() == "limpet-reader: the reader was closed\n", reader.said())
 
 
 def broken():
@@ -438,7 +473,7 @@ def killed_at_random():
         check("values were written", value > kills, value)
 
 
-for test in (arguments, scripts, messages, broken, mode_asked, later, prepared, unserved, made_or_loaded, kept_later,
+for test in (arguments, scripts, messages, taken, broken, mode_asked, later, prepared, unserved, made_or_loaded, kept_later,
              stored_before_the_answer, not_stored, killed_at_random):
     test()
 end()
