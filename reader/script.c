@@ -7,6 +7,12 @@
 #include "card.h"
 #include "say.h"
 
+/* How far a script has come, and which of its lines the card refused. */
+struct progress {
+    size_t lines, refused, first; /* first: the number of the first refused one */
+    unsigned word;                /* the status word that refused it */
+};
+
 /* What runs a line says why it was not served, and NULL where it was. */
 static const char *why_not(uint8_t outcome)
 {
@@ -18,16 +24,37 @@ static const char *run_issue(const struct line *l)
     return l->wrong != NULL ? l->wrong : why_not(card_issue(l));
 }
 
-static const char *run_command(const struct line *l)
+/* Bytes that wait are no refusal, and neither are the tries left where VERIFY without data (case 1) asks for them. */
+static bool refuses(struct bytes command, unsigned word)
+{
+    bool asks_tries = command.len == 4 && command.at[0] == 0x00 && command.at[1] == 0x20;
+
+    return word != 0x9000 && word >> 8 != 0x61 && !(asks_tries && word >> 4 == 0x63C);
+}
+
+static void count_refused(struct progress *p, unsigned word)
+{
+    if (p->refused++ == 0) {
+        p->first = p->lines;
+        p->word = word;
+    }
+}
+
+static const char *run_command(const struct line *l, struct progress *p)
 {
     struct bytes command = { l->command.at, l->command.len }, random = { l->random.at, l->random.len };
     uint8_t reply[LIMPET_REPLY_SIZE];
     size_t count;
     uint8_t outcome = card_command(command, random, reply, &count);
+    unsigned word;
 
-    if (outcome == LIMPET_OK)
-        say_exchange(command, (struct bytes){ reply, count });
-    return why_not(outcome);
+    if (outcome != LIMPET_OK)
+        return outcome_says(outcome);
+    say_exchange(command, (struct bytes){ reply, count });
+    word = (unsigned)reply[count - 2] << 8 | reply[count - 1];
+    if (refuses(command, word))
+        count_refused(p, word);
+    return NULL;
 }
 
 bool issue_words(char *const words[ISSUE_FIELDS])
@@ -47,7 +74,7 @@ bool issue_words(char *const words[ISSUE_FIELDS])
 }
 
 /* issue_due: the line has to be the ISSUE. */
-static const char *run_line(const struct text *t, struct line *l, bool issue_due)
+static const char *run_line(const struct text *t, struct line *l, bool issue_due, struct progress *p)
 {
     read_line(t, l);
     if (l->kind == ISSUE_LINE)
@@ -56,7 +83,18 @@ static const char *run_line(const struct text *t, struct line *l, bool issue_due
         return "the first line is to be an ISSUE: key, limit, admin PIN, limit, user PIN, limit, mode, parted by tabs";
     if (l->wrong != NULL)
         return l->wrong;
-    return l->kind == CMD_LINE ? run_command(l) : why_not(card_reset());
+    return l->kind == CMD_LINE ? run_command(l, p) : why_not(card_reset());
+}
+
+/* What is said holds also where the card is not stored in the end. */
+static void say_refused(const char *name, const struct progress *p)
+{
+    static const char all_the_same[] = "a refused line does not keep the card from being made";
+
+    if (p->refused == 1)
+        say("%s: line %zu was refused (%04X); %s", name, p->first, p->word, all_the_same);
+    else if (p->refused > 1)
+        say("%s: line %zu was refused (%04X), and %zu more; %s", name, p->first, p->word, p->refused - 1, all_the_same);
 }
 
 static bool run_lines(FILE *file, const char *name, bool issues)
@@ -64,26 +102,27 @@ static bool run_lines(FILE *file, const char *name, bool issues)
     struct text t;
     struct line l;
     const char *wrong = NULL;
-    size_t number = 0;
+    struct progress p = { .lines = 0 };
 
     while (wrong == NULL && read_text(file, &t)) {
-        wrong = run_line(&t, &l, issues && number == 0);
-        number++;
+        p.lines++;
+        wrong = run_line(&t, &l, issues && p.lines == 1, &p);
     }
     wipe(&t, sizeof t);
     wipe(&l, sizeof l);
     if (wrong != NULL) {
-        say("%s: line %zu: %s", name, number, wrong);
+        say("%s: line %zu: %s", name, p.lines, wrong);
         return false;
     }
     if (ferror(file)) {
         say("cannot read %s: %s", name, strerror(errno));
         return false;
     }
-    if (issues && number == 0) {
+    if (issues && p.lines == 0) {
         say("%s: no ISSUE line", name);
         return false;
     }
+    say_refused(name, &p);
     return true;
 }
 

@@ -24,7 +24,8 @@ bool issue_words(char *const words[ISSUE_FIELDS]);
 
 /*
  * Runs the script at path, or standard input for "-". With issues, its first line and no other is an ISSUE; without, none is.
- * A status word that refuses is the script's own matter; a line that is not served ends it. Says which and why.
+ * A status word that refuses is the script's own matter, and is said at the end; a line that is not served ends it. Says which and
+ * why.
  */
 bool run_script(const char *path, bool issues);
 

@@ -257,6 +257,23 @@ def prepared():
             check("without --verbose no command is printed", ">" not in reader.said(), reader.said())
 
 
+def refused_lines():
+    """A status word that refuses a line of a script is said, and the card is in the reader all the same."""
+    says = "limpet-reader: {}; a refused line does not keep the card from being made\n".format
+    example = os.path.join("examples", "standby.script")
+    with tempfile.NamedTemporaryFile("w", prefix="limpet-script-") as script:
+        script.write(lines_of("00200001", WRONG_PIN.hex().upper()))
+        script.flush()
+        first, second = f"{example}: line 10 was refused (6982), and 2 more", f"{script.name}: line 2 was refused (63C2)"
+        for words, due in (([example], says(first)), (["--prepare", script.name, *ISSUE_WORDS], says(second)),
+                           (["--prepare", script.name, example], says(first) + says(second)),
+                           ([os.path.join("examples", "box.script")], "")):
+            with connected(*words) as (line, reader):
+                check(f"refused lines: the card of {' '.join(words)}", line.ask(GET_ATR).startswith("3B8A"))
+                before_it, is_in, _ = reader.said().partition("limpet-reader: the card is in the reader ")
+                check(f"refused lines of {' '.join(words)}", before_it == due and is_in, reader.said())
+
+
 def unserved():
     """A card that serves nothing is no end: each command is answered, and the person who started the reader is told."""
     with connected(program=UNSERVED) as (line, reader):
@@ -473,7 +490,7 @@ def killed_at_random():
         check("values were written", value > kills, value)
 
 
-for test in (arguments, scripts, messages, taken, broken, mode_asked, later, prepared, unserved, made_or_loaded, kept_later,
-             stored_before_the_answer, not_stored, killed_at_random):
+for test in (arguments, scripts, messages, taken, broken, mode_asked, later, prepared, refused_lines, unserved, made_or_loaded,
+             kept_later, stored_before_the_answer, not_stored, killed_at_random):
     test()
 end()
