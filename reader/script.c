@@ -19,9 +19,52 @@ static const char *why_not(uint8_t outcome)
     return outcome == LIMPET_OK ? NULL : outcome_says(outcome);
 }
 
+static bool is_pin(struct bytes pin)
+{
+    for (size_t i = 0; i < pin.len; i++)
+        if (pin.at[i] < '0' || pin.at[i] > '9')
+            return false;
+    return 6 <= pin.len && pin.len <= 16;
+}
+
+static bool is_limit(uint16_t limit)
+{
+    return 1 <= limit && limit <= 128;
+}
+
+/* Which values of a refused issue are at fault, and never what they are. All are named as possible where none is seen to be. */
+static const char *wrong_values(const struct line *l)
+{
+    static char all[512];
+    const struct {
+        bool good;
+        const char *wrong;
+    } values[ISSUE_FIELDS] = {
+        { l->key.len == LIMPET_KEY_SIZE, "the device key is not 16 bytes" },
+        { is_limit(l->device_limit), "the device key's limit is not 1 to 128" },
+        { is_pin(l->admin_pin), "the admin PIN is not 6 to 16 digits" },
+        { is_limit(l->admin_limit), "the admin PIN's limit is not 1 to 128" },
+        { is_pin(l->user_pin), "the user PIN is not 6 to 16 digits" },
+        { is_limit(l->user_limit), "the user PIN's limit is not 1 to 128" },
+        { l->mode <= 1, "the mode is not 0 or 1" },
+    };
+    size_t len = 0;
+
+    for (int i = 0; i < ISSUE_FIELDS; i++)
+        if (!values[i].good)
+            len += (size_t)snprintf(all + len, sizeof all - len, "%s%s", len == 0 ? "" : "; ", values[i].wrong);
+    return len > 0 ? all : outcome_says(LIMPET_BAD_ISSUE);
+}
+
+/* Whether the values are good is the library's to say. */
 static const char *run_issue(const struct line *l)
 {
-    return l->wrong != NULL ? l->wrong : why_not(card_issue(l));
+    uint8_t outcome;
+
+    if (l->wrong != NULL)
+        return l->wrong;
+    outcome = card_issue(l);
+    return outcome == LIMPET_BAD_ISSUE ? wrong_values(l) : why_not(outcome);
 }
 
 /* Bytes that wait are no refusal, and neither are the tries left where VERIFY without data (case 1) asks for them. */

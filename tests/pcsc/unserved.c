@@ -20,7 +20,7 @@ uint8_t limpet_issue(struct limpet_card *card, uint8_t *area, size_t area_len,
 {
     (void)card, (void)area, (void)area_len, (void)key, (void)key_len, (void)device_limit;
     (void)admin_pin, (void)admin_pin_len, (void)admin_limit, (void)user_pin, (void)user_pin_len, (void)user_limit, (void)mode;
-    return LIMPET_OK;
+    return getenv("REFUSES_ISSUE") == NULL ? LIMPET_OK : LIMPET_BAD_ISSUE;
 }
 
 uint8_t limpet_command(struct limpet_card *card, uint8_t *area, size_t area_len,

@@ -52,15 +52,15 @@ def arguments():
         refused(f"bad usage: {' '.join(words)}", 2, "usage: ", *words)
     refused("a file that is not there", 1, "cannot read none: No such file", "none")
     refused("a folder", 1, "cannot read tests: Is a directory", "tests")
-    bad = "16 bytes, a PIN not 6 to 16 digits, a limit not 1 to 128, or the mode not 0 or 1"
-    refused("a PIN of five digits", 1, bad, *ISSUE_WORDS[:4], "12345", "3")
-    refused("a limit of 129", 1, bad, *ISSUE_WORDS[:5], "129")
-    refused("a limit of 0", 1, bad, *ISSUE_WORDS[:5], "0")
-    refused("a short key", 1, bad, "00", *ISSUE_WORDS[1:])
+    bad = "limpet-reader: no card: the {}\n".format
+    refused("a PIN of five digits", 1, bad("user PIN is not 6 to 16 digits"), *ISSUE_WORDS[:4], "12345", "3")
+    refused("a limit of 129", 1, bad("user PIN's limit is not 1 to 128"), *ISSUE_WORDS[:5], "129")
+    refused("a limit of 0", 1, bad("user PIN's limit is not 1 to 128"), *ISSUE_WORDS[:5], "0")
+    refused("a short key", 1, bad("device key is not 16 bytes"), "00", *ISSUE_WORDS[1:])
     refused("a key in lower case", 1, "key is not upper-case hex", "0a" * 16, *ISSUE_WORDS[1:])
     refused("a limit that is no number", 1, "a limit is not a number", *ISSUE_WORDS[:5], "03")
     for mode in ("2", "65535"):
-        refused(f"mode {mode}", 1, bad, *ISSUE_WORDS, mode)
+        refused(f"mode {mode}", 1, bad("mode is not 0 or 1"), *ISSUE_WORDS, mode)
     for mode in ("01", "65536", "x", ""):
         refused(f"mode {mode!r}", 1, "the mode is not a number", *ISSUE_WORDS, mode)
     with socket.socket() as unused:
@@ -75,7 +75,7 @@ def scripts():
     refused_script("an empty script", "no ISSUE line", b"")
     refused_script("a script without ISSUE", "line 1: the first line is to be an ISSUE", b"RESET\n")
     refused_script("an ISSUE line without a mode", "line 1: the first line is to be an ISSUE", issue[:-2])
-    refused_script("an ISSUE line of mode 2", "line 1: the key is not 16 bytes", issue_line(2).encode())
+    refused_script("an ISSUE line of mode 2", "line 1: the mode is not 0 or 1\n", issue_line(2).encode())
     refused_script("an ISSUE line of mode 01", "line 1: the mode is not a number", issue_line("01").encode())
     refused_script("a second ISSUE", "line 2: a card has been issued already", issue + b"\n" + issue)
     refused_script("ISSUE in --prepare", "line 1: a card has been issued already", issue, "--prepare", "SCRIPT", *ISSUE_WORDS)
@@ -339,7 +339,7 @@ def made_or_loaded():
         none = f"there is no file {kept.path}, and nothing that says which card to make"
         refused("--card without a file", 1, none, "--card", kept.path)
         refused("--card with a bad script", 1, "cannot read none: No such file", "--card", kept.path, "none")
-        refused("--card with bad values", 1, "a limit not 1 to 128", "--card", kept.path, *ISSUE_WORDS[:5], "0")
+        refused("--card with bad values", 1, "the user PIN's limit is not 1 to 128", "--card", kept.path, *ISSUE_WORDS[:5], "0")
         check("these make no file", os.listdir(kept.folder) == [], os.listdir(kept.folder))
         refused("--card with a folder", 1, "is a folder, and a card is a file", "--card", kept.folder, *ISSUE_WORDS)
         os.symlink("x", kept.path)
