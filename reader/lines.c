@@ -122,4 +122,6 @@ void read_line(const struct text *t, struct line *l)
         l->kind = RESET_LINE;
     else
         l->wrong = "no ISSUE, CMD or RESET line with the right number of fields";
+    if (l->wrong != NULL && t->len > 0 && t->at[t->len - 1] == '\r')
+        l->wrong = "it ends in CR LF, and has to end in LF alone"; /* what an editor on Windows makes of any line */
 }

@@ -12,7 +12,7 @@
 /* Connects to 127.0.0.1. Returns the socket, or -1 and says why. */
 int vpcd_connect(uint16_t port);
 
-/* Waits until vpcd speaks to the card for the first time, and says that it is in the reader; or, where that takes long, why it may. */
+/* Waits until vpcd speaks to the card for the first time, and says that it is in the reader; and before, where that takes long. */
 void vpcd_wait(int connection, uint16_t port);
 
 /*

@@ -81,7 +81,15 @@ def scripts():
     refused_script("ISSUE in --prepare", "line 1: a card has been issued already", issue, "--prepare", "SCRIPT", *ISSUE_WORDS)
     refused_script("an empty line", "line 2: no ISSUE, CMD or RESET", issue + b"\n\n")
     refused_script("a field too many", "line 2: no ISSUE, CMD or RESET", issue + b"\nRESET\t")
-    refused_script("CR is a byte like others", "line 2: no ISSUE, CMD or RESET", issue + b"\nRESET\r\n")
+    cr_lf = "it ends in CR LF, and has to end in LF alone\n"
+    command = b"CMD\t00200001\t" + random
+    for number, text in ((1, issue + b"\r\n" + command + b"\r\n"), (2, issue + b"\nRESET\r\n"),
+                         (2, issue + b"\n" + command + b"\r\n"), (2, issue + b"\n\r\n"),
+                         (3, issue + b"\n" + command + b"\nRESET\r")):
+        refused_script(f"CR LF: {text!r}", f"line {number}: {cr_lf}", text)
+    refused_script("CR LF in --prepare", f"line 1: {cr_lf}", command + b"\r\n", "--prepare", "SCRIPT", *ISSUE_WORDS)
+    refused_script("CR within a line is a byte like others", "line 2: no ISSUE, CMD or RESET", issue + b"\nRE\rSET\n")
+    refused_script("CR behind 1,024 bytes", "line 2: longer than 1,024", issue + b"\n" + b"A" * 1024 + b"\r\n")
     refused_script("lower case", "line 2: command and random", issue + b"\nCMD\t00a4\t" + random)
     refused_script("an odd digit", "line 2: command and random", issue + b"\nCMD\t00A\t" + random)
     refused_script("301 bytes", "line 2: command and random", issue + b"\nCMD\t" + b"00" * 301 + b"\t" + random)
