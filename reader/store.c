@@ -69,15 +69,30 @@ static bool still_there(const struct store *s)
         && named.st_dev == opened.st_dev && named.st_ino == opened.st_ino;
 }
 
-/* A link would be replaced, and not the file that it leads to. */
+static void say_no_plain_file(const struct store *s, mode_t mode)
+{
+    say(S_ISDIR(mode) ? "%s is a folder, and a card is a file" : "%s is not a plain file: CARD has to be a file's name", s->path);
+}
+
+/* A link would be replaced, and not the file that it leads to. The shell's <(...) is a link to a pipe. */
+static void say_link(const struct store *s)
+{
+    struct stat is;
+
+    if (fstatat(s->folder, s->name, &is, 0) == 0 && !S_ISREG(is.st_mode))
+        say_no_plain_file(s, is.st_mode);
+    else
+        say("%s is a symbolic link: name the file that it leads to", s->path);
+}
+
 static enum found could_not_open(const struct store *s)
 {
     if (errno == ENOENT && s->name[0] != '\0')
         return NONE;
     if (errno == ELOOP)
-        say("%s is a symbolic link: name the file that it leads to", s->path);
+        say_link(s);
     else if (errno == EISDIR || (s->name[0] == '\0' && s->path[0] != '\0'))
-        say("%s is a folder, and a card is a file", s->path);
+        say_no_plain_file(s, S_IFDIR);
     else
         cannot("open", s->path);
     return CANNOT_OPEN;
@@ -91,14 +106,9 @@ static bool plain_file(const struct store *s)
         cannot("open", s->path);
         return false;
     }
-    if (!S_ISREG(is.st_mode)) {
-        say(S_ISDIR(is.st_mode) ? "%s is a folder, and a card is a file" : "%s is not a plain file", s->path);
-        return false;
-    }
-    if ((is.st_mode & OTHERS) != 0)
-        say("warning: %s is open to others (mode %03o), and has the key and the PINs as they are; say: chmod 600 %s",
-            s->path, (unsigned)is.st_mode & 0777, s->path);
-    return true;
+    if (!S_ISREG(is.st_mode))
+        say_no_plain_file(s, is.st_mode);
+    return S_ISREG(is.st_mode);
 }
 
 /* Whoever waits for the lock of a file that is replaced meanwhile has the lock of the wrong one, and looks again. */
@@ -147,6 +157,10 @@ enum found store_open(struct store *s, const char *path, enum use use)
 
     s->text.len = 0;
     s->file = -1;
+    if (strcmp(path, "-") == 0) {
+        say("CARD has to be a file's name: - is for scripts alone");
+        return CANNOT_OPEN;
+    }
     if (!open_folder(s, path))
         return CANNOT_OPEN;
     found = open_file(s, use);
@@ -167,12 +181,31 @@ void store_close(struct store *s)
     close(s->folder);
 }
 
+static void warn_of_others(const struct store *s)
+{
+    struct stat is;
+
+    if (fstat(s->file, &is) == 0 && (is.st_mode & OTHERS) != 0)
+        say("warning: %s is open to others (mode %03o), and has the key and the PINs as they are; say: chmod 600 %s",
+            s->path, (unsigned)is.st_mode & 0777, s->path);
+}
+
+bool store_has_card(const struct store *s)
+{
+    bool good = card_from_text(&s->text) == LIMPET_OK;
+
+    if (good)
+        warn_of_others(s);
+    return good;
+}
+
 bool store_load(const struct store *s)
 {
-    if (card_from_text(&s->text) == LIMPET_OK)
-        return true;
-    say("%s: these are not the lines of a sound card; tools/card check says more", s->path);
-    return false;
+    bool good = store_has_card(s);
+
+    if (!good)
+        say("%s: these are not the lines of a sound card; tools/card check says more", s->path);
+    return good;
 }
 
 /* ------------------------------------------------------------ to store */

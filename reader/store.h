@@ -31,7 +31,11 @@ enum found store_open(struct store *s, const char *path, enum use use);
 /* Only after store_open with FOUND or NONE. */
 void store_close(struct store *s);
 
-/* Has the card of this program be that of the file. False where the file is none. */
+/*
+ * Each has the card of this program be that of the file, and warns where others can open it. False where the file is none, which
+ * only the second says.
+ */
+bool store_has_card(const struct store *s);
 bool store_load(const struct store *s);
 
 /*

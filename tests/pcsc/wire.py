@@ -349,6 +349,7 @@ def made_or_loaded():
         refused("--card with a bad script", 1, "cannot read none: No such file", "--card", kept.path, "none")
         refused("--card with bad values", 1, "the user PIN's limit is not 1 to 128", "--card", kept.path, *ISSUE_WORDS[:5], "0")
         check("these make no file", os.listdir(kept.folder) == [], os.listdir(kept.folder))
+        refused("--card -", 1, "limpet-reader: CARD has to be a file's name: - is for scripts alone\n", "--card", "-", *ISSUE_WORDS)
         refused("--card with a folder", 1, "is a folder, and a card is a file", "--card", kept.folder, *ISSUE_WORDS)
         os.symlink("x", kept.path)
         refused("--card with a symbolic link", 1, "is a symbolic link", "--card", kept.path, *ISSUE_WORDS)
@@ -372,6 +373,9 @@ def made_or_loaded():
         no_card = "not the lines of a sound card; tools/card check says more"
         refused("--card with a file that is no card", 1, no_card, "--card", kept.path)
         check("which is left as it is", kept.read() == "no card\n")
+        os.chmod(kept.path, 0o644)
+        got = run("--card", kept.path)
+        check("and not warned of", got == (1, "", f"limpet-reader: {kept.path}: these are {no_card}\n"), got)
     with kept_card() as kept, tempfile.NamedTemporaryFile("w", prefix="limpet-script-") as script:
         script.write(lines_of(*LOGIN, "80E0A102052800020000", WRONG_PIN.hex().upper()))
         script.flush()

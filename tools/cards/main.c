@@ -200,7 +200,7 @@ static int check_file(int words, char **word)
         return bad_usage();
     if (!open_card(&s, word[0], TO_LOOK))
         return EXIT_FAILURE;
-    accepted = card_from_text(&s.text) == LIMPET_OK;
+    accepted = store_has_card(&s);
     read_form(&s.text, &f);
     show_verdict(word[0], accepted, &f);
     store_close(&s);
