@@ -53,7 +53,7 @@ static bool next_line(struct reading *r, const char *part, size_t fields)
     if (line.len > 0 && line.at[line.len - 1] == '\r')
         return fail(r, "it ends in CR LF in place of LF");
     part_fields(r, line);
-    return r->count == fields || fail(r, "it has not the right number of fields, which are parted by one tab each");
+    return r->count == fields || fail(r, "it does not have the right number of fields, which are parted by one tab each");
 }
 
 static bool is_none(struct bytes field)
