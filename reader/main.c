@@ -70,7 +70,7 @@ struct arguments {
 
 static int bad_usage(void)
 {
-    fputs(usage, stderr);
+    say_usage(usage, "reader/run");
     return BAD_USAGE;
 }
 
@@ -78,8 +78,10 @@ static bool read_port(const char *text, uint16_t *port)
 {
     char *end;
     unsigned long value = strtoul(text, &end, 10);
-    if (text[0] < '0' || text[0] > '9' || *end != '\0' || value < 1 || value > UINT16_MAX)
+    if (text[0] < '0' || text[0] > '9' || *end != '\0' || value < 1 || value > UINT16_MAX) {
+        say("%s is not a port: --port takes 1 to 65535", text);
         return false;
+    }
     *port = (uint16_t)value;
     return true;
 }
@@ -87,12 +89,43 @@ static bool read_port(const char *text, uint16_t *port)
 static bool read_mode(char *text, char **mode)
 {
     *mode = text;
-    return strcmp(text, "0") == 0 || strcmp(text, "1") == 0;
+    if (strcmp(text, "0") == 0 || strcmp(text, "1") == 0)
+        return true;
+    say("%s is not a mode: --mode takes 0 or 1", text);
+    return false;
 }
 
 static bool good_count(const struct arguments *a)
 {
-    return a->words == 1 || a->words == ISSUE_FIELDS - 1 || a->words == ISSUE_FIELDS || (a->words == 0 && a->card != NULL);
+    if (a->words == 1 || a->words == ISSUE_FIELDS - 1 || a->words == ISSUE_FIELDS || (a->words == 0 && a->card != NULL))
+        return true;
+    if (a->words == 0)
+        say("nothing says which card: give a script, the values of an issue, or a card file with --card");
+    else
+        say("%d words are neither a script nor the 6 or 7 values of an issue", a->words);
+    return false;
+}
+
+/* Whether it is one, and its value is good. What is wrong has been said, by getopt where there is no such option. */
+static bool take_option(int option, struct arguments *a)
+{
+    switch (option) {
+    case 's':
+        a->prepare = optarg;
+        return true;
+    case 'c':
+        a->card = optarg;
+        return true;
+    case 'v':
+        verbose = true;
+        return true;
+    case 'm':
+        return read_mode(optarg, &a->mode);
+    case 'p':
+        return read_port(optarg, &a->port);
+    default:
+        return false;
+    }
 }
 
 /* -1 to go on, else the status to end with. */
@@ -105,22 +138,15 @@ static int read_options(int argc, char **argv, struct arguments *a)
         { NULL, 0, NULL, 0 },
     };
     int option;
+
+    argv[0] = (char *)said_by; /* who says what getopt says */
     while ((option = getopt_long(argc, argv, "h", options, NULL)) >= 0) {
-        if (option == 's') {
-            a->prepare = optarg;
-        } else if (option == 'c') {
-            a->card = optarg;
-        } else if (option == 'v') {
-            verbose = true;
-        } else if (option == 'h') {
+        if (option == 'h') {
             fputs(usage, stdout);
             return EXIT_SUCCESS;
-        } else if (option != 'm' && option != 'p') {
-            return bad_usage();
-        } else if (!(option == 'm' ? read_mode(optarg, &a->mode) : read_port(optarg, &a->port))) {
-            say("%s is no %s", optarg, option == 'm' ? "mode" : "port");
-            return bad_usage();
         }
+        if (!take_option(option, a))
+            return bad_usage();
     }
     a->words = argc - optind;
     a->word = argv + optind;

@@ -2,6 +2,7 @@
 
 #include <stdarg.h>
 #include <stdio.h>
+#include <string.h>
 
 bool verbose = false;
 
@@ -13,6 +14,12 @@ void say(const char *format, ...)
     vfprintf(stderr, format, rest);
     fputc('\n', stderr);
     va_end(rest);
+}
+
+void say_usage(const char *usage, const char *front)
+{
+    fwrite(usage, 1, (size_t)(strstr(usage, "\n\n") + 1 - usage), stderr);
+    fprintf(stderr, "%s --help explains it\n", front);
 }
 
 static void print_hex(const char *sign, struct bytes text)

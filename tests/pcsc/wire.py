@@ -45,11 +45,23 @@ def arguments():
         check(option, status == 0 and out.startswith("usage: ") and err == "", (status, err))
         front = subprocess.run([os.path.join(ROOT, "reader", "run"), option], capture_output=True, text=True, timeout=SECONDS)
         check(f"reader/run {option} is the program's", (front.returncode, front.stdout, front.stderr) == (0, out, ""))
-    for words in ([], ["a", "b"], ISSUE_WORDS[:5], [*ISSUE_WORDS, "0", "x"], ["--port"], ["--port", "0", "x"],
-                  ["--port", "65536", "x"], ["--port", "7x", "x"], ["--colour", "x"], ["--card"], ["--card", "x", "a", "b"],
-                  ["--card", "x", *ISSUE_WORDS, "0", "x"], ["--mode"], ["--mode", "2", "x"], ["--mode", "01", "x"],
-                  ["--mode", "", "x"]):
-        refused(f"bad usage: {' '.join(words)}", 2, "usage: ", *words)
+    synopsis = out.partition("\n\n")[0] + "\n"
+    check("the usage is short", synopsis.count("\n") == 3, synopsis)
+    mode, port = "{} is not a mode: --mode takes 0 or 1".format, "{} is not a port: --port takes 1 to 65535".format
+    words_are = "{} words are neither a script nor the 6 or 7 values of an issue".format
+    value = "option '{}' requires an argument".format
+    for why, *words in (
+        ("nothing says which card: give a script, the values of an issue, or a card file with --card",),
+        (words_are(2), "a", "b"), (words_are(5), *ISSUE_WORDS[:5]), (words_are(8), *ISSUE_WORDS, "0", "x"),
+        (words_are(2), "--card", "x", "a", "b"), (words_are(8), "--card", "x", *ISSUE_WORDS, "0", "x"),
+        (port("0"), "--port", "0", "x"), (port("65536"), "--port", "65536", "x"), (port("7x"), "--port", "7x", "x"),
+        (port("-7"), "--port", "-7", "x"), (mode("2"), "--mode", "2", "x"), (mode("01"), "--mode", "01", "x"),
+        (mode(""), "--mode", "", "x"), (value("--port"), "--port"), (value("--card"), "--card"), (value("--mode"), "--mode"),
+        ("unrecognized option '--colour'", "--colour", "x"), ("invalid option -- 'x'", "-x"),
+    ):
+        got = run(*words)
+        due = f"limpet-reader: {why}\n{synopsis}reader/run --help explains it\n"
+        check(f"bad usage: {' '.join(words)}", got == (2, "", due), got)
     refused("a file that is not there", 1, "cannot read none: No such file", "none")
     refused("a folder", 1, "cannot read tests: Is a directory", "tests")
     bad = "limpet-reader: no card: the {}\n".format

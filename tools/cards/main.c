@@ -60,10 +60,16 @@ static const char usage[] =
     "  tools/card new box.card examples/box.script   the box of docs/STANDBY.md\n"
     "  tools/card show box.card\n";
 
-static int bad_usage(void)
+static int show_usage(void)
 {
-    fputs(usage, stderr);
+    say_usage(usage, "tools/card");
     return BAD_USAGE;
+}
+
+static int bad_usage(const char *why)
+{
+    say("%s", why);
+    return show_usage();
 }
 
 /* ------------------------------------------------------------ new */
@@ -107,7 +113,7 @@ static int new_card(int words, char **word)
     bool good = false;
 
     if (words != 2 && words != ISSUE_FIELDS && words != 1 + ISSUE_FIELDS)
-        return bad_usage();
+        return bad_usage("new takes a card file and a script, or a card file and the values of an issue");
     found = store_open(&s, word[0], TO_LOOK);
     if (found == CANNOT_OPEN)
         return EXIT_FAILURE;
@@ -149,7 +155,7 @@ static int run_card(int words, char **word)
     int status = EXIT_FAILURE;
 
     if (words != 2)
-        return bad_usage();
+        return bad_usage("run takes a card file and a script");
     signal(SIGPIPE, SIG_IGN); /* an answer that nobody takes is an error like others */
     if (!open_card(&s, word[0], TO_CHANGE))
         return EXIT_FAILURE;
@@ -175,7 +181,7 @@ static int show_file(int words, char **word)
     int status = EXIT_FAILURE;
 
     if (words != 1)
-        return bad_usage();
+        return bad_usage("show takes a card file and nothing else");
     if (!open_card(&s, word[0], TO_LOOK))
         return EXIT_FAILURE;
     if (store_load(&s)) {
@@ -197,7 +203,7 @@ static int check_file(int words, char **word)
     bool accepted;
 
     if (words != 1)
-        return bad_usage();
+        return bad_usage("check takes a card file and nothing else");
     if (!open_card(&s, word[0], TO_LOOK))
         return EXIT_FAILURE;
     accepted = store_has_card(&s);
@@ -209,15 +215,28 @@ static int check_file(int words, char **word)
 
 /* ------------------------------------------------------------ which */
 
+static bool asks_for_help(const char *word)
+{
+    return strcmp(word, "--help") == 0 || strcmp(word, "-h") == 0;
+}
+
+static int no_part(int argc, char **argv)
+{
+    if (argc < 2)
+        return bad_usage("nothing says what to do: new, run, show or check");
+    say(asks_for_help(argv[1]) ? "%s stands alone" : "there is no part %s", argv[1]);
+    return show_usage();
+}
+
 int main(int argc, char **argv)
 {
     static const struct {
         const char *word;
         int (*run)(int words, char **word);
     } parts[] = { { "new", new_card }, { "run", run_card }, { "show", show_file }, { "check", check_file } };
-    int status = BAD_USAGE;
+    int status;
 
-    if (argc == 2 && (strcmp(argv[1], "--help") == 0 || strcmp(argv[1], "-h") == 0)) {
+    if (argc == 2 && asks_for_help(argv[1])) {
         fputs(usage, stdout);
         return EXIT_SUCCESS;
     }
@@ -229,5 +248,5 @@ int main(int argc, char **argv)
             card_wipe();
             return status;
         }
-    return bad_usage();
+    return no_part(argc, argv);
 }
