@@ -1,11 +1,10 @@
 """A script for cards of mode 0 made into one for cards of mode 1: every card is issued in mode 1, and behind each command that has
 data in mode 0 there is a GET RESPONSE for all of them. It ends where a script ends, after 65,535 lines.
 
-    python3 bench/fetching.py SCRIPT ANSWERS
-
 ANSWERS is what the script program prints for SCRIPT.
 """
 
+import argparse
 import itertools
 import sys
 
@@ -29,5 +28,10 @@ def fetching(script, answers):
             yield FETCH
 
 
-with open(sys.argv[1], "rb") as script_file, open(sys.argv[2], "rb") as answers_file:
+parser = argparse.ArgumentParser(
+    prog="python3 bench/fetching.py", description=__doc__, formatter_class=argparse.RawDescriptionHelpFormatter)
+parser.add_argument("script", metavar="SCRIPT")
+parser.add_argument("answers", metavar="ANSWERS")
+asked = parser.parse_args()
+with open(asked.script, "rb") as script_file, open(asked.answers, "rb") as answers_file:
     sys.stdout.buffer.writelines(itertools.islice(fetching(script_file, answers_file), MOST_LINES))

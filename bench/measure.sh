@@ -1,5 +1,14 @@
 # What the scripts here share. They source it behind tools/x86/common.sh.
 
+# earlier SCRIPT WHAT FOLDER FILE: the path of the library or program of an earlier version that the script compares with, where the
+# caller, in FOLDER, has named one.
+earlier() {
+    [ -n "$4" ] || return 0
+    [[ $4 == /* ]] || set -- "$1" "$2" "$3" "$3/$4"
+    [ -f "$4" ] || refuse "$1" "there is no $2 $4"
+    echo "$4"
+}
+
 # make_scripts LINES: two scripts from a fixed seed. $work/mode-0 has so many random lines, and all its cards are of mode 0. $work/mode-1
 # is the same on cards of mode 1, with a GET RESPONSE behind each command that has data, as far as a script may go.
 make_scripts() {

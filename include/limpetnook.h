@@ -12,7 +12,13 @@
  * What to link: target/staticlib/liblimpetnook.a, which has all that is
  * declared here. `rt staticlib limpetnook` makes it. It is for x86-64 with the
  * System V calling convention (Linux), on whichever machine it is built; the kit
- * makes it for no other processor.
+ * makes it for no other processor. So the compiler has to be one for x86-64 too:
+ *
+ *   gcc -std=c11 -Iinclude examples/client.c target/staticlib/liblimpetnook.a -o client
+ *
+ * On Arm it is x86_64-linux-gnu-gcc in gcc's place, and tools/x86/run ./client
+ * runs what it makes. docs/C.md leads through all of it, with a whole program,
+ * examples/client.c. The bytes of commands and answers are in docs/COMMANDS.md.
  *
  * What is taken at most, measured and not proved (tests/footprint):
  *
@@ -76,6 +82,25 @@ uint32_t limpet_version(void);
 #define LIMPET_TEXT_SIZE 9401  /* the text of a card: no card has a longer one */
 
 /*
+ * Status words, the last two bytes of an answer: those that a program needs by
+ * name. docs/COMMANDS.md has all of them.
+ */
+#define LIMPET_SW_DONE 0x9000     /* done */
+#define LIMPET_SW_NO_RIGHT 0x6982 /* a right is missing: a PIN, or the device login */
+#define LIMPET_SW_BLOCKED 0x6983  /* no tries are left, so nothing was compared */
+
+/* 61xx, only from a card of mode 1: done, and so many bytes wait, 1 to 256. */
+#define LIMPET_SW_IS_WAITING(sw) (((sw) & 0xFF00) == 0x6100)
+#define LIMPET_SW_WAITING(sw) ((((sw) - 1) & 0xFF) + 1)
+
+/*
+ * 63Cx: what was presented is wrong, or nothing was presented; and so many tries
+ * are left, where 15 stands for 15 or more.
+ */
+#define LIMPET_SW_IS_TRIES(sw) (((sw) & 0xFFF0) == 0x63C0)
+#define LIMPET_SW_TRIES(sw) ((sw) & 0x0F)
+
+/*
  * AES-128 of one block under a key (FIPS 197, encryption).
  *
  * Each buffer is a pointer and the number of bytes there. All three numbers
@@ -119,6 +144,20 @@ uint8_t limpet_aes128(const uint8_t *key, size_t key_len,
  * A card does not know its own area from another's. With another's it is refused
  * with LIMPET_UNSOUND where the lengths of its records of type 2C, which stand in
  * the area, do not fit; otherwise it is served as if the area were its own.
+ *
+ * No call stores anything where it outlasts the power. That is the caller's:
+ *
+ *   - Store card and area, both, after each command and before its answer leaves
+ *     the program. If the answer leaves first, whoever then cuts the power has
+ *     tried a PIN, and the try is not counted. Where they cannot be stored, give
+ *     no answer and no further command; go on from what is stored.
+ *   - Store a copy, by limpet_to_text or byte by byte, and have the old one stay
+ *     until the new one is whole. A call changes card and area in place, and what
+ *     a loss of power in its middle leaves of them may be no card, or another one.
+ *     No call recovers it so far. So lend no call memory that outlasts the power.
+ *   - Reset a card that was without power, by limpet_reset, before its first
+ *     command. A text, and a copy, bring back the rights that were held in it.
+ *   - Whoever puts an earlier text or copy back puts the tries of then back too.
  */
 struct limpet_card;
 
@@ -179,7 +218,8 @@ uint8_t limpet_issue(struct limpet_card *card,
  *   LIMPET_UNSOUND      card and area are together no state of a card.
  *
  * There is no other outcome, and the first that applies is returned. On a
- * refusal card, area and reply are as they were, and *reply_count is 0.
+ * refusal card, area and reply are as they were, and *reply_count is 0: there is
+ * no status word, and reply[*reply_count - 2] is outside of the reply.
  *
  * On a card of mode 1 the answer to a command that has data is the status word
  * 61xx alone: xx bytes wait in the card, 00 for 256. It counts as 9000. The
@@ -244,6 +284,11 @@ uint8_t limpet_to_text(const struct limpet_card *card,
  * There is no other outcome, and the first that applies is returned. On a
  * refusal the area is as it was and the card is blank, each byte of it 00: a
  * card that was there is gone. To keep an earlier card, read into another one.
+ *
+ * The card has the rights, the challenge and the waiting bytes of its text. Where
+ * it was without power meanwhile, limpet_reset has to come next. A text that was
+ * cut off between two files may not be refused: it can be that of a card without
+ * the files that followed. So store a text as a whole or not at all.
  *
  * A text that was read and is written again is the same text. A card that was
  * written and is read again is the same card with the same files.

@@ -91,16 +91,12 @@ uint8_t card_from_text(const struct card_text *t)
     return outcome;
 }
 
-void card_save(struct card_copy *c)
+/* SELECT, READ BINARY, READ RECORD, GET RESPONSE, GET CHALLENGE. None of them is shown a key or a PIN. */
+bool card_only_reads(struct bytes command)
 {
-    memcpy(c->card, kept, sizeof kept);
-    memcpy(c->area, area, sizeof area);
-}
+    static const uint8_t reads[] = { 0xA4, 0xB0, 0xB2, 0xC0, 0x84 };
 
-void card_put_back(const struct card_copy *c)
-{
-    memcpy(kept, c->card, sizeof kept);
-    memcpy(area, c->area, sizeof area);
+    return command.len >= 2 && command.at[0] == 0x00 && memchr(reads, command.at[1], sizeof reads) != NULL;
 }
 
 void card_wipe(void)

@@ -32,13 +32,8 @@ uint8_t card_to_lasting_text(struct card_text *t);
 /* Has the card of these lines. Where they are refused there is none. */
 uint8_t card_from_text(const struct card_text *t);
 
-/* The card and its area, to be put back. */
-struct card_copy {
-    uint8_t card[LIMPET_CARD_SIZE], area[LIMPET_AREA_SIZE];
-};
-
-void card_save(struct card_copy *c);
-void card_put_back(const struct card_copy *c);
+/* Whether the command is one of those that can change the session alone, by its class and instruction. */
+bool card_only_reads(struct bytes command);
 
 /* Writes 00 over the card, and over any other bytes. */
 void card_wipe(void);

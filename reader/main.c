@@ -6,6 +6,7 @@
 #include <unistd.h>
 
 #include "card.h"
+#include "process.h"
 #include "say.h"
 #include "script.h"
 #include "store.h"
@@ -22,13 +23,15 @@ static const char usage[] =
     "\n"
     "Puts a card into vpcd, the virtual reader of Debian's package vsmartcard-vpcd.\n"
     "pcscd has to be running with its driver. The card is in the reader until this\n"
-    "program ends. Without --card it lives in memory alone and is gone then.\n"
+    "program ends. Without --card it lives in memory alone and is gone then. Where other\n"
+    "machines can reach vpcd's port there is a warning: docs/READER.md says why.\n"
     "\n"
     "FILE is a script: an ISSUE line and, where wanted, CMD and RESET lines that\n"
     "prepare the card (./limpet --help has their form). Or the values of an ISSUE\n"
     "line are given as words: the key as upper-case hex, each limit 1 to 128, the mode\n"
-    "0 or 1; without one it is that of --mode, or 0. Others on the same machine can see\n"
-    "words, and not what is in a file.\n"
+    "0 or 1; without one it is that of --mode, or 0. Words stay in the shell's history\n"
+    "and in the terminal's scrollback, and others on the same machine can see them; not\n"
+    "so what is in a file.\n"
     "\n"
     "A card of mode 0 speaks T=1, and its data come with its answer. A card of mode 1\n"
     "speaks T=0: it answers 61 and how many bytes wait, which GET RESPONSE, 00C00000\n"
@@ -39,7 +42,8 @@ static const char usage[] =
     "  --mode MODE       the card is to be of that mode, 0 or 1; an error where FILE,\n"
     "                    CARD or the words have another\n"
     "  --port PORT       where vpcd waits for a card (35963)\n"
-    "  --verbose         print what the card is told and what it answers, PINs too\n"
+    "  --verbose         print what the card is told and what it answers, PINs too; they\n"
+    "                    stay in the terminal's scrollback\n"
     "  --help            print this\n"
     "\n"
     "With --card the card that is in CARD is put into the reader, and FILE, the words\n"
@@ -49,10 +53,11 @@ static const char usage[] =
     "\n"
     "What a command changes for good, such as tries, PINs and files, is in CARD before\n"
     "its answer goes out, so nothing that was answered is lost, however this program\n"
-    "ends. Where it cannot be stored the command is answered 6F00 and the card stays\n"
-    "as it was; this terminal says why. The session is not stored: putting a card in is\n"
-    "a reset, so rights held, current file, challenge and waiting bytes are gone at the\n"
-    "start. While the card is in the reader no other program can change CARD.\n"
+    "ends. No command is run on a card that cannot be stored: it is answered 6F00, and\n"
+    "this program says why and ends with status 1, at its start too. The session is not\n"
+    "stored: putting a card in is a reset, so rights held, current file, challenge and\n"
+    "waiting bytes are gone at the start. While the card is in the reader no other\n"
+    "program can change CARD.\n"
     "\n"
     "Status: 0 when the reader was closed, 1 for an error, 2 for bad usage.\n"
     "\n"
@@ -106,6 +111,15 @@ static bool good_count(const struct arguments *a)
     return false;
 }
 
+static bool one_standard_input(const struct arguments *a)
+{
+    bool good = a->prepare == NULL || a->words != 1 || strcmp(a->prepare, "-") != 0 || strcmp(a->word[0], "-") != 0;
+
+    if (!good)
+        say("standard input is one script: it cannot be FILE and that of --prepare");
+    return good;
+}
+
 /* Whether it is one, and its value is good. What is wrong has been said, by getopt where there is no such option. */
 static bool take_option(int option, struct arguments *a)
 {
@@ -143,14 +157,14 @@ static int read_options(int argc, char **argv, struct arguments *a)
     while ((option = getopt_long(argc, argv, "h", options, NULL)) >= 0) {
         if (option == 'h') {
             fputs(usage, stdout);
-            return EXIT_SUCCESS;
+            return printed(EXIT_SUCCESS);
         }
         if (!take_option(option, a))
             return bad_usage();
     }
     a->words = argc - optind;
     a->word = argv + optind;
-    return good_count(a) ? -1 : bad_usage();
+    return good_count(a) && one_standard_input(a) ? -1 : bad_usage();
 }
 
 /* Putting a card in is a reset: what the preparation showed it, and a session that its file has, is forgotten. */
@@ -189,6 +203,8 @@ static bool take_card(const struct arguments *a, enum found found, const struct 
         return make_card(a);
     if (a->words > 0 || a->prepare != NULL)
         say("%s is there, so its card is put in and no other is made", a->card);
+    if (a->words > 1)
+        wipe_issue_words(a->word);
     return store_load(kept) && put_in();
 }
 
@@ -218,7 +234,7 @@ static int serve(uint16_t port, struct store *kept)
     return good ? EXIT_SUCCESS : EXIT_FAILURE;
 }
 
-/* Stored before the first command too, so that a file that cannot be is noticed at once. */
+/* Stored before the first command too, changed or not, so that a file that cannot be is noticed at once. */
 static int serve_kept(const struct arguments *a)
 {
     struct store kept;
@@ -227,7 +243,7 @@ static int serve_kept(const struct arguments *a)
 
     if (found == CANNOT_OPEN)
         return EXIT_FAILURE;
-    if (take_card(a, found, &kept) && has_mode(a->mode) && store_card(&kept, WHOLE_CARD) != NOT_STORED)
+    if (take_card(a, found, &kept) && has_mode(a->mode) && store_card(&kept, WHOLE_CARD, ALWAYS) == STORED)
         status = serve(a->port, &kept);
     store_close(&kept);
     return status;
@@ -236,8 +252,10 @@ static int serve_kept(const struct arguments *a)
 int main(int argc, char **argv)
 {
     struct arguments a = { .port = VPCD_PORT };
-    int status = read_options(argc, argv, &a);
+    int status;
 
+    process_begin();
+    status = read_options(argc, argv, &a);
     if (status >= 0)
         return status;
     if (!card_fits())
@@ -246,6 +264,6 @@ int main(int argc, char **argv)
         status = serve_kept(&a);
     else
         status = make_card(&a) && has_mode(a.mode) ? serve(a.port, NULL) : EXIT_FAILURE;
-    card_wipe();
+    process_end();
     return status;
 }

@@ -2,6 +2,7 @@
 
 #include <stdarg.h>
 #include <stdio.h>
+#include <stdlib.h>
 #include <string.h>
 
 bool verbose = false;
@@ -20,6 +21,14 @@ void say_usage(const char *usage, const char *front)
 {
     fwrite(usage, 1, (size_t)(strstr(usage, "\n\n") + 1 - usage), stderr);
     fprintf(stderr, "%s --help explains it\n", front);
+}
+
+int printed(int status)
+{
+    if (fflush(stdout) == 0 && !ferror(stdout))
+        return status;
+    say("the output cannot be written");
+    return EXIT_FAILURE;
 }
 
 static void print_hex(const char *sign, struct bytes text)

@@ -5,6 +5,7 @@
 #include <string.h>
 
 #include "card.h"
+#include "process.h"
 #include "say.h"
 
 /* How far a script has come, and which of its lines the card refused. */
@@ -100,6 +101,12 @@ static const char *run_command(const struct line *l, struct progress *p)
     return NULL;
 }
 
+void wipe_issue_words(char *const words[])
+{
+    for (size_t i = 0; i < ISSUE_SECRETS; i++)
+        wipe(words[2 * i], strlen(words[2 * i]));
+}
+
 bool issue_words(char *const words[ISSUE_FIELDS])
 {
     struct bytes fields[ISSUE_FIELDS];
@@ -111,6 +118,7 @@ bool issue_words(char *const words[ISSUE_FIELDS])
     read_issue(fields, &l);
     wrong = run_issue(&l);
     wipe(&l, sizeof l);
+    wipe_issue_words(words);
     if (wrong != NULL)
         say("no card: %s", wrong);
     return wrong == NULL;
@@ -193,6 +201,7 @@ FILE *open_script(const char *path, struct script_room *room)
 void close_script(FILE *file, struct script_room *room)
 {
     fclose(file);
+    standard_open(); /* where it was standard input */
     wipe(room, sizeof *room);
 }
 

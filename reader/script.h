@@ -7,6 +7,8 @@
 
 #include "lines.h"
 
+enum { ISSUE_SECRETS = 3 }; /* among the fields of an ISSUE line: key and PINs, fields 0, 2 and 4 */
+
 /* Where a script's bytes stand while it is read, so that they can be wiped. */
 struct script_room {
     char at[BUFSIZ];
@@ -19,8 +21,14 @@ void close_script(FILE *file, struct script_room *room);
 /* What a person calls it. */
 const char *script_name(const char *path);
 
-/* Issues the card with values that are written as on an ISSUE line. Says why where it cannot. */
+/*
+ * Issues the card with values that are written as on an ISSUE line, and wipes the key and the PINs among the words. Says why where
+ * it cannot.
+ */
 bool issue_words(char *const words[ISSUE_FIELDS]);
+
+/* Writes 00 over the key and the PINs, so that a list of processes shows them no longer. The mode may be missing. */
+void wipe_issue_words(char *const words[]);
 
 /*
  * Runs the script at path, or standard input for "-". With issues, its first line and no other is an ISSUE; without, none is.

@@ -1,6 +1,7 @@
-#define _DEFAULT_SOURCE /* flock, and what POSIX has on files in a folder */
+#define _GNU_SOURCE /* flock, renameat2, and what POSIX has on files in a folder */
 #include "store.h"
 
+#include <dirent.h>
 #include <errno.h>
 #include <fcntl.h>
 #include <signal.h>
@@ -8,6 +9,7 @@
 #include <stdlib.h>
 #include <string.h>
 #include <sys/file.h>
+#include <sys/random.h>
 #include <sys/stat.h>
 #include <time.h>
 #include <unistd.h>
@@ -16,6 +18,8 @@
 
 enum { OWNER_ALONE = 0600, OTHERS = 0077 };
 enum { LONGEST_WAIT = 5000, BEFORE_WORD = 1000, PAUSE = 20 }; /* ms */
+
+static const char the_card[] = "", the_folder[] = "the folder of "; /* what is locked, before the card's name */
 
 /* ------------------------------------------------------------ to open */
 
@@ -39,23 +43,28 @@ static bool open_folder(struct store *s, const char *path)
     return s->folder >= 0;
 }
 
-/* Waits where another program has the lock, but not for long: one with a reader keeps it. */
-static bool lock(int file, const char *path)
+static void pause_for(int ms)
 {
-    struct timespec pause = { .tv_nsec = PAUSE * 1000000L };
+    struct timespec pause = { .tv_nsec = ms * 1000000L };
+    nanosleep(&pause, NULL);
+}
 
+/* Waits where another program has the lock, but not for long: one with a reader keeps it. */
+static bool lock(int file, const char *what, const char *path)
+{
     for (int waited = 0; flock(file, LOCK_EX | LOCK_NB) != 0; waited += PAUSE) {
         if (errno != EWOULDBLOCK && errno != EINTR) {
-            cannot("lock", path);
+            say("cannot lock %s%s: %s", what, path, strerror(errno));
             return false;
         }
         if (waited >= LONGEST_WAIT) {
-            say("%s is in use: another program runs a script on it, or has it in the reader", path);
+            say("%s%s is in use: another program %s", what, path,
+                what == the_card ? "runs a script on it, or has it in the reader" : "keeps it locked");
             return false;
         }
         if (waited == BEFORE_WORD)
-            say("another program is using %s; waiting", path);
-        nanosleep(&pause, NULL);
+            say("another program is using %s%s; waiting", what, path);
+        pause_for(PAUSE);
     }
     return true;
 }
@@ -98,6 +107,7 @@ static enum found could_not_open(const struct store *s)
     return CANNOT_OPEN;
 }
 
+/* A file with a second name is refused: to store the card would replace it under one of them, and leave it under the other. */
 static bool plain_file(const struct store *s)
 {
     struct stat is;
@@ -108,7 +118,10 @@ static bool plain_file(const struct store *s)
     }
     if (!S_ISREG(is.st_mode))
         say_no_plain_file(s, is.st_mode);
-    return S_ISREG(is.st_mode);
+    else if (is.st_nlink > 1)
+        say("%s has %ju names (hard links), and one of them alone would have the card that is stored: remove the others, "
+            "which find -samefile %s finds", s->path, (uintmax_t)is.st_nlink, s->path);
+    return S_ISREG(is.st_mode) && is.st_nlink <= 1;
 }
 
 /* Whoever waits for the lock of a file that is replaced meanwhile has the lock of the wrong one, and looks again. */
@@ -122,7 +135,7 @@ static enum found open_file(struct store *s, enum use use)
             return could_not_open(s);
         if (use == TO_LOOK)
             return FOUND;
-        if (!lock(s->file, s->path)) {
+        if (!lock(s->file, the_card, s->path)) {
             close(s->file);
             return CANNOT_OPEN;
         }
@@ -155,8 +168,7 @@ enum found store_open(struct store *s, const char *path, enum use use)
 {
     enum found found;
 
-    s->text.len = 0;
-    s->file = -1;
+    *s = (struct store){ .file = -1, .next = -1 };
     if (strcmp(path, "-") == 0) {
         say("CARD has to be a file's name: - is for scripts alone");
         return CANNOT_OPEN;
@@ -175,6 +187,7 @@ enum found store_open(struct store *s, const char *path, enum use use)
 
 void store_close(struct store *s)
 {
+    store_drop(s);
     wipe(&s->text, sizeof s->text);
     if (s->file >= 0)
         close(s->file);
@@ -208,7 +221,116 @@ bool store_load(const struct store *s)
     return good;
 }
 
-/* ------------------------------------------------------------ to store */
+/* ------------------------------------------------------------ what killed programs leave */
+
+/* Whether it is the name of a next file of this card: as make_name has it, or as older programs had it. */
+static bool names_next(const struct store *s, const char *name)
+{
+    size_t len = strlen(s->name), digits;
+
+    if (name[0] != '.' || strncmp(name + 1, s->name, len) != 0)
+        return false;
+    name += 1 + len;
+    if (strcmp(name, ".new") == 0)
+        return true;
+    digits = name[0] == '.' ? strspn(name + 1, "0123456789") : 0;
+    if (digits == 0 || name[1 + digits] != '-')
+        return false;
+    name += 1 + digits + 1;
+    return strspn(name, "0123456789abcdef") == 8 && strcmp(name + 8, ".new") == 0;
+}
+
+/* Whoever makes a next file holds its lock, so one whose lock can be had is nobody's. */
+static bool is_nobodys(const struct store *s, const char *name)
+{
+    int file = openat(s->folder, name, O_RDONLY | O_NOFOLLOW | O_NONBLOCK | O_NOCTTY | O_CLOEXEC);
+    struct stat is;
+    bool nobodys = file >= 0 && fstat(file, &is) == 0 && S_ISREG(is.st_mode) && flock(file, LOCK_EX | LOCK_NB) == 0;
+
+    if (file >= 0)
+        close(file);
+    return nobodys;
+}
+
+/* Where a folder cannot be listed nothing is found in it. */
+static void each_leftover(const struct store *s, void (*visit)(const struct store *s, const char *name))
+{
+    int again = openat(s->folder, ".", O_RDONLY | O_DIRECTORY | O_CLOEXEC);
+    DIR *list = again < 0 ? NULL : fdopendir(again);
+    struct dirent *entry;
+
+    while (list != NULL && (entry = readdir(list)) != NULL)
+        if (names_next(s, entry->d_name) && is_nobodys(s, entry->d_name))
+            visit(s, entry->d_name);
+    if (list != NULL)
+        closedir(list);
+    else if (again >= 0)
+        close(again);
+}
+
+/* One that cannot be removed is in nobody's way. */
+static void remove_it(const struct store *s, const char *name)
+{
+    unlinkat(s->folder, name, 0);
+}
+
+/* Between its making and its lock it seems to be nobody's, so it is looked at twice. */
+static void warn_of_it(const struct store *s, const char *name)
+{
+    int folder = (int)(s->name - s->path);
+
+    pause_for(PAUSE);
+    if (is_nobodys(s, name))
+        say("warning: %.*s%s is left from a program that was killed, and may hold the key and the PINs; whoever changes %s next "
+            "removes it", folder, s->path, name, s->path);
+}
+
+void store_warn_of_leftovers(const struct store *s)
+{
+    each_leftover(s, warn_of_it);
+}
+
+/* ------------------------------------------------------------ to prepare */
+
+static bool cannot_store(const struct store *s)
+{
+    say("cannot store %s: %s; %s", s->path, strerror(errno), s->file < 0 ? "no card is made" : "it is as it was");
+    return false;
+}
+
+static sigset_t waited_before; /* signals */
+
+/* A signal that ends the program waits until nothing half done is left. */
+static void hold_signals(struct store *s)
+{
+    sigset_t all;
+
+    signal(SIGXFSZ, SIG_IGN); /* a file that grows too large is an error like others */
+    sigfillset(&all);
+    sigprocmask(SIG_BLOCK, &all, &waited_before);
+    s->held = true;
+}
+
+static void let_signals(struct store *s)
+{
+    if (s->held)
+        sigprocmask(SIG_SETMASK, &waited_before, NULL);
+    s->held = false;
+}
+
+/* A name that no other program has. */
+static bool make_name(struct store *s)
+{
+    uint32_t any;
+    int len;
+
+    if (getrandom(&any, sizeof any, 0) != (ssize_t)sizeof any)
+        return cannot_store(s);
+    len = snprintf(s->next_name, sizeof s->next_name, ".%s.%jd-%08jx.new", s->name, (intmax_t)getpid(), (uintmax_t)any);
+    if (len >= (int)sizeof s->next_name)
+        say("cannot store %s: its name is too long", s->path);
+    return len < (int)sizeof s->next_name;
+}
 
 static bool write_all(int file, const struct card_text *t)
 {
@@ -226,74 +348,128 @@ static bool write_all(int file, const struct card_text *t)
 }
 
 /* The owner of the file keeps it, also where root changes the card. */
-static bool same_owner(const struct store *s, int next)
+static bool same_owner(const struct store *s)
 {
     struct stat was, is;
 
     if (s->file < 0)
         return true;
-    return fstat(s->file, &was) == 0 && fstat(next, &is) == 0
-        && (was.st_uid == is.st_uid || fchown(next, was.st_uid, (gid_t)-1) == 0);
+    return fstat(s->file, &was) == 0 && fstat(s->next, &is) == 0
+        && (was.st_uid == is.st_uid || fchown(s->next, was.st_uid, (gid_t)-1) == 0);
 }
 
-/*
- * The next file, whole and on the disk, under its own name; -1 where that fails. It is locked before it has the card's name. One
- * of that name is left from a program that was killed, since whoever makes one has the lock.
- */
-static int make_next(const struct store *s, const struct card_text *text)
+/* The file is what was opened, or there was none. */
+static bool is_ours(const struct store *s)
 {
-    int next, why;
-
-    if (unlinkat(s->folder, s->next_name, 0) != 0 && errno != ENOENT)
-        return -1;
-    next = openat(s->folder, s->next_name, O_RDWR | O_CREAT | O_EXCL | O_NOFOLLOW | O_CLOEXEC, OWNER_ALONE);
-    if (next < 0)
-        return -1;
-    if (flock(next, LOCK_EX | LOCK_NB) == 0 && fchmod(next, OWNER_ALONE) == 0 && same_owner(s, next) && write_all(next, text)
-        && fsync(next) == 0)
-        return next;
-    why = errno;
-    unlinkat(s->folder, s->next_name, 0);
-    close(next);
-    errno = why;
-    return -1;
-}
-
-/* A new card takes no other's place, so its file gets a second name, and then loses the first. */
-static bool take_place(const struct store *s)
-{
-    int why;
-
-    if (s->file >= 0 && renameat(s->folder, s->next_name, s->folder, s->name) == 0)
+    if (s->file < 0 || still_there(s))
         return true;
-    why = errno;
-    if (s->file < 0) {
-        int made = linkat(s->folder, s->next_name, s->folder, s->name, 0);
-        why = errno;
-        if (made == 0) {
-            if (unlinkat(s->folder, s->next_name, 0) != 0) /* whoever stores next tries again */
-                say("%s is made, but its other name %s stays: %s", s->path, s->next_name, strerror(errno));
-            return true;
-        }
-    }
-    unlinkat(s->folder, s->next_name, 0);
-    errno = why;
+    say("cannot store %s: another program has removed or replaced it", s->path);
     return false;
 }
 
-static enum stored replace(struct store *s, const struct card_text *text)
+/* In the folder's lock, so that nobody takes it for one that was left. */
+static bool make_next(struct store *s)
 {
-    int next = make_next(s, text);
+    s->next = openat(s->folder, s->next_name, O_RDWR | O_CREAT | O_EXCL | O_NOFOLLOW | O_CLOEXEC, OWNER_ALONE);
+    if (s->next < 0)
+        return cannot_store(s);
+    return lock(s->next, the_card, s->path);
+}
 
-    if (next < 0 || !take_place(s)) {
-        say("cannot store %s: %s; %s", s->path, strerror(errno), s->file < 0 ? "no card is made" : "it is as it was");
-        if (next >= 0)
-            close(next);
-        return NOT_STORED;
+static bool begin(struct store *s)
+{
+    bool good = make_name(s) && lock(s->folder, the_folder, s->path);
+
+    if (!good)
+        return false;
+    good = is_ours(s);
+    if (good && !s->swept)
+        each_leftover(s, remove_it);
+    s->swept = true;
+    good = good && make_next(s);
+    flock(s->folder, LOCK_UN);
+    return good;
+}
+
+/* It is really written, so that a full disk is seen now. */
+static bool has_room(const struct store *s)
+{
+    struct card_text longest = { .len = LIMPET_TEXT_SIZE };
+
+    memset(longest.at, '-', longest.len);
+    return (fchmod(s->next, OWNER_ALONE) == 0 && same_owner(s) && write_all(s->next, &longest)) || cannot_store(s);
+}
+
+bool store_prepare(struct store *s)
+{
+    hold_signals(s);
+    if (begin(s) && has_room(s))
+        return true;
+    store_drop(s);
+    return false;
+}
+
+void store_drop(struct store *s)
+{
+    if (s->next >= 0) {
+        unlinkat(s->folder, s->next_name, 0);
+        close(s->next);
     }
+    s->next = -1;
+    let_signals(s);
+}
+
+/* ------------------------------------------------------------ to store */
+
+/* The text is on the disk before it has the card's name. */
+static bool write_next(const struct store *s, const struct card_text *text)
+{
+    return (lseek(s->next, 0, SEEK_SET) == 0 && write_all(s->next, text) && ftruncate(s->next, (off_t)text->len) == 0
+            && fsync(s->next) == 0) || cannot_store(s);
+}
+
+/* Where the file system does not know RENAME_NOREPLACE a look has to do: the folder's lock keeps out who might come between. */
+static bool take_free_place(const struct store *s)
+{
+    struct stat is;
+
+    if (renameat2(s->folder, s->next_name, s->folder, s->name, RENAME_NOREPLACE) == 0)
+        return true;
+    if (errno == EINVAL || errno == ENOSYS) {
+        if (fstatat(s->folder, s->name, &is, AT_SYMLINK_NOFOLLOW) == 0)
+            errno = EEXIST;
+        else if (errno == ENOENT)
+            return renameat(s->folder, s->next_name, s->folder, s->name) == 0 || cannot_store(s);
+    }
+    if (errno != EEXIST)
+        return cannot_store(s);
+    say("%s has come to be meanwhile, and is left as it is; no card is made", s->path);
+    return false;
+}
+
+/* The folder's lock is that of all who put a card in place, from before the look at its name until it is there. */
+static bool take_place(struct store *s)
+{
+    bool good = lock(s->folder, the_folder, s->path);
+
+    if (!good)
+        return false;
+    if (s->file < 0)
+        good = take_free_place(s);
+    else
+        good = is_ours(s) && (renameat(s->folder, s->next_name, s->folder, s->name) == 0 || cannot_store(s));
+    flock(s->folder, LOCK_UN);
+    return good;
+}
+
+static enum stored put(struct store *s, const struct card_text *text)
+{
+    if (!write_next(s, text) || !take_place(s))
+        return NOT_STORED;
     if (s->file >= 0)
         close(s->file); /* and with it the lock of the old one */
-    s->file = next;
+    s->file = s->next;
+    s->next = -1;
     s->text = *text;
     /* Where a folder cannot be brought to the disk by itself there is nothing to be done. */
     if (fsync(s->folder) == 0 || errno == EINVAL)
@@ -303,57 +479,24 @@ static enum stored replace(struct store *s, const struct card_text *text)
     return STORED_FOR_NOW;
 }
 
-/* A signal that ends the program waits until nothing half done is left. */
-static enum stored replace_whole(struct store *s, const struct card_text *text)
+static bool same_text(const struct card_text *one, const struct card_text *other)
 {
-    sigset_t all, before;
-    enum stored stored;
-
-    signal(SIGXFSZ, SIG_IGN); /* a file that grows too large is an error like others */
-    sigfillset(&all);
-    sigprocmask(SIG_BLOCK, &all, &before);
-    stored = replace(s, text);
-    sigprocmask(SIG_SETMASK, &before, NULL);
-    return stored;
+    return one->len == other->len && memcmp(one->at, other->at, one->len) == 0;
 }
 
-/* Where there is no file to be locked the folder is, while one is made. */
-static enum stored make(struct store *s, const struct card_text *text)
-{
-    enum stored stored;
-
-    if (!lock(s->folder, s->path))
-        return NOT_STORED;
-    stored = replace_whole(s, text);
-    flock(s->folder, LOCK_UN);
-    return stored;
-}
-
-static enum stored put(struct store *s, const struct card_text *text)
-{
-    if (snprintf(s->next_name, sizeof s->next_name, ".%s.new", s->name) >= (int)sizeof s->next_name) {
-        say("cannot store %s: its name is too long", s->path);
-        return NOT_STORED;
-    }
-    if (s->file < 0)
-        return make(s, text);
-    if (s->text.len == text->len && memcmp(s->text.at, text->at, text->len) == 0)
-        return STORED;
-    if (!still_there(s)) {
-        say("cannot store %s: another program has removed or replaced it", s->path);
-        return NOT_STORED;
-    }
-    return replace_whole(s, text);
-}
-
-enum stored store_card(struct store *s, enum part part)
+enum stored store_card(struct store *s, enum part part, enum when when)
 {
     struct card_text text;
     uint8_t outcome = part == WHOLE_CARD ? card_to_text(&text) : card_to_lasting_text(&text);
-    enum stored stored = outcome == LIMPET_OK ? put(s, &text) : NOT_STORED;
+    enum stored stored = NOT_STORED;
 
     if (outcome != LIMPET_OK)
         say("cannot store %s: the card is not written, outcome %u: %s", s->path, (unsigned)outcome, outcome_says(outcome));
+    else if (when == WHERE_CHANGED && same_text(&s->text, &text))
+        stored = STORED;
+    else if (s->next >= 0 || store_prepare(s))
+        stored = put(s, &text);
+    store_drop(s);
     wipe(&text, sizeof text);
     return stored;
 }

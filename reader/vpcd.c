@@ -12,6 +12,7 @@
 #include <unistd.h>
 
 #include "card.h"
+#include "port.h"
 #include "say.h"
 
 /* Messages of one byte from vpcd. Any other message is a command. */
@@ -63,6 +64,7 @@ int vpcd_connect(uint16_t port)
             close(s);
         return -1;
     }
+    warn_of_open_port(port);
     return s;
 }
 
@@ -172,38 +174,56 @@ static bool fresh(uint8_t random[LIMPET_RANDOM_SIZE])
     return false;
 }
 
-/*
- * Gives the card the command. Where what it did cannot be kept, it was not done. A command that only reads changes nothing that
- * lasts and is not stored, and neither is a reset.
- */
-static bool serve_command(struct bytes command, struct bytes random, uint8_t *reply, size_t *count, struct store *kept)
-{
-    struct card_copy before;
-    uint8_t outcome;
-    bool good;
+enum served { SERVED, NOT_SERVED, NOT_KEPT };
 
-    card_save(&before);
-    outcome = card_command(command, random, reply, count);
-    good = outcome == LIMPET_OK && (kept == NULL || store_card(kept, WHAT_LASTS) != NOT_STORED);
-    if (outcome != LIMPET_OK)
-        say("command not served, outcome %u: %s", (unsigned)outcome, outcome_says(outcome));
-    else if (!good)
-        card_put_back(&before);
-    wipe(&before, sizeof before);
-    return good;
+/*
+ * All is stored that may change what lasts or is shown a key or a PIN, a right one too, so that a right PIN and a wrong one meet
+ * the same failures. A reset is not stored.
+ */
+static enum served keep(struct bytes command, struct store *kept)
+{
+    enum when when = card_only_reads(command) ? WHERE_CHANGED : ALWAYS;
+
+    return kept == NULL || store_card(kept, WHAT_LASTS, when) == STORED ? SERVED : NOT_KEPT;
 }
 
-/* The card's answer to a command. 6F00 only where it could not be asked, which good buffers rule out, or not be kept. */
-static size_t ask(struct bytes command, uint8_t reply[LIMPET_REPLY_SIZE], struct store *kept)
+/* Gives the card the command, but not where it could not be kept. */
+static enum served serve_command(struct bytes command, struct bytes random, uint8_t *reply, size_t *count, struct store *kept)
+{
+    uint8_t outcome;
+
+    if (kept != NULL && !store_prepare(kept))
+        return NOT_KEPT;
+    outcome = card_command(command, random, reply, count);
+    if (outcome == LIMPET_OK)
+        return keep(command, kept);
+    say("command not served, outcome %u: %s", (unsigned)outcome, outcome_says(outcome));
+    if (kept != NULL)
+        store_drop(kept);
+    return NOT_SERVED;
+}
+
+/*
+ * The card's answer to a command. 6F00 only where it could not be asked, which good buffers rule out, or not be kept. Then there is
+ * no card any more: one that goes on without its file would count no tries.
+ */
+static enum served ask(struct bytes command, uint8_t reply[LIMPET_REPLY_SIZE], size_t *count, struct store *kept)
 {
     uint8_t random[LIMPET_RANDOM_SIZE];
-    size_t count;
+    enum served served = NOT_SERVED;
 
-    if (fresh(random) && serve_command(command, (struct bytes){ random, sizeof random }, reply, &count, kept))
-        return count;
+    if (fresh(random))
+        served = serve_command(command, (struct bytes){ random, sizeof random }, reply, count, kept);
+    if (served == SERVED)
+        return SERVED;
+    if (served == NOT_KEPT) {
+        card_wipe();
+        say("the card is out of the reader: no command is run on a card that cannot be stored");
+    }
     reply[0] = 0x6F;
     reply[1] = 0x00;
-    return 2;
+    *count = 2;
+    return served;
 }
 
 static void reset(const char *event)
@@ -214,11 +234,12 @@ static void reset(const char *event)
         say("reset not served, outcome %u: %s", (unsigned)outcome, outcome_says(outcome));
 }
 
-/* Serves one message. Whether the connection still stands. */
+/* Serves one message. Whether the connection still stands, and the card is in the reader. */
 static bool serve(int s, struct bytes message, struct store *kept)
 {
     uint8_t reply[LIMPET_REPLY_SIZE];
     size_t count;
+    enum served served;
 
     switch (message.len == 1 ? message.at[0] : -1) {
     case POWER_OFF:
@@ -233,9 +254,9 @@ static bool serve(int s, struct bytes message, struct store *kept)
     case GET_ATR:
         return card_mode() == 1 ? answer(s, atr_t0, sizeof atr_t0) : answer(s, atr_t1, sizeof atr_t1);
     default:
-        count = ask(message, reply, kept);
+        served = ask(message, reply, &count, kept);
         say_exchange(message, (struct bytes){ reply, count });
-        return answer(s, reply, count);
+        return answer(s, reply, count) && served != NOT_KEPT;
     }
 }
 
@@ -247,6 +268,7 @@ bool vpcd_serve(int s, struct store *kept)
 
     while ((got = receive(s, body, &len)) == 1)
         if (!serve(s, (struct bytes){ body, len }, kept))
-            return false;
+            break;
+    wipe(body, sizeof body);
     return got == 0;
 }

@@ -17,7 +17,8 @@ void vpcd_wait(int connection, uint16_t port);
 
 /*
  * Serves until vpcd closes the connection, which is a good end, or the connection breaks. Where the card is kept in a file, what a
- * command changed for good is in it before the answer goes out; kept: NULL where it is not.
+ * command changed for good is in it before the answer goes out; kept: NULL where it is not. Where the file cannot be stored the
+ * answer is 6F00, and that is the last one: the card is wiped.
  */
 bool vpcd_serve(int connection, struct store *kept);
 

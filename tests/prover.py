@@ -76,12 +76,18 @@ def read_list(path, once, standing):
     return entries
 
 
+def refuse(reason):
+    """Ends a script that cannot be called so."""
+    print(f"{sys.argv[0]}: {reason}\n{sys.argv[0]} --help explains it", file=sys.stderr)
+    sys.exit(2)
+
+
 def chosen(entries, words, gate):
     """The entries that the words of the command line ask for: those of the gate, all (--all), or those that are named."""
     names = [word for word in words if word != "--all"]
     unknown = [name for name in names if name not in [entry["name"] for entry in entries]]
     if unknown:
-        sys.exit(f"{sys.argv[0]}: not in the list: {' '.join(unknown)}")
+        refuse(f"not in the list: {' '.join(unknown)}")
     if names:
         return [entry for entry in entries if entry["name"] in names]
     return entries if "--all" in words else gate(entries)

@@ -61,5 +61,6 @@ uint32_t random_below(uint32_t bound);
 /* The groups of spoiled.c and of areas.c. */
 void try_spoiled_cards(void);
 void try_wrong_areas(void);
+void try_each_byte_spoiled(void);
 
 #endif

@@ -282,6 +282,7 @@ static void issue_precedence(void)
 
 /* ------------------------------------------------------------------- main */
 
+/* The longest comes last: a run that ends at the first thing that is wrong seldom gets there. */
 static void refuse_all(void)
 {
     all_command_lengths();
@@ -297,6 +298,7 @@ static void refuse_all(void)
     issue_precedence();
     try_spoiled_cards();
     try_wrong_areas();
+    try_each_byte_spoiled();
 }
 
 static bool read_arguments(int count, char **arguments)

@@ -34,7 +34,7 @@ static void spoil_bytes(const struct pattern *p, struct tally *all, struct tally
         }
 }
 
-static void cards_with_one(void)
+void try_each_byte_spoiled(void)
 {
     struct group g = begin("cards with one byte spoiled (1000 x place + value)");
     struct tally all = { 0 };
@@ -357,7 +357,6 @@ static void cards_of_any_bytes(void)
 
 void try_spoiled_cards(void)
 {
-    cards_with_one();
     cards_with_several();
     rights_by_hand();
     responses_by_hand();

@@ -1,8 +1,6 @@
 #!/usr/bin/env python3
 """What decides the addresses and the jumps of a compiled function.
 
-    flow.py OBJECT FUNCTION ARGUMENT...
-
 OBJECT is an object file or an archive for x86-64. An ARGUMENT is the name of one of the function's arguments, in their order;
 `*name` is a pointer to bytes that are secret, and every other is a number that is not. The code is followed from its entry, along
 all ways at once, through the functions of the same object that it calls, and for each register, flag and byte of the stack it is
@@ -20,6 +18,7 @@ Prints a line for each conditional jump, with the arguments that decide it. Refu
 The exit status is 1 where anything is refused. What the code reads through a pointer argument is taken to be secret, all of it, and
 what it writes through one not to touch its own stack, which is the caller's side of include/limpetnook.h.
 """
+import argparse
 import re
 import subprocess
 import sys
@@ -395,9 +394,15 @@ class Walk:
 
 
 def main():
-    if len(sys.argv) < 3 or len(sys.argv) > 3 + len(ARGUMENTS):
-        sys.exit(__doc__)
-    path, function, arguments = sys.argv[1], sys.argv[2], sys.argv[3:]
+    parser = argparse.ArgumentParser(
+        prog="tests/machine/flow.py", description=__doc__, formatter_class=argparse.RawDescriptionHelpFormatter)
+    parser.add_argument("path", metavar="OBJECT")
+    parser.add_argument("function", metavar="FUNCTION")
+    parser.add_argument("arguments", metavar="ARGUMENT", nargs="*")
+    asked = parser.parse_args()
+    path, function, arguments = asked.path, asked.function, asked.arguments
+    if len(arguments) > len(ARGUMENTS):
+        parser.error("a function has %d arguments at most" % len(ARGUMENTS))
     state = State()
     for register, name in zip(ARGUMENTS, arguments):
         state.registers[register] = ("address", name[1:], 0) if name.startswith("*") else number(name)

@@ -1,12 +1,11 @@
 """Compares a script program with the model, byte for byte, on generated scripts.
 
-    python3 tests/model/compare.py [--save FILE] PROGRAM SEED LINES [SEED LINES]...
-
 SEED is a number, or FIRST-LAST for all seeds from one to the other. PROGRAM is the path of the program, for x86-64; one that
 ends in .py is run by this Python. A seed is one test. For a difference the shortest script found that still shows one is
 printed, and with --save written to FILE as it is. The exit status is 0 only when all agree.
 """
 
+import argparse
 import os
 import subprocess
 import sys
@@ -139,19 +138,21 @@ def tests_of(words):
     return [(seed, int(lines)) for word, lines in zip(words[::2], words[1::2]) for seed in seeds_of(word)]
 
 
-def main(arguments):
-    save = None
-    if arguments[:1] == ["--save"] and len(arguments) > 1:
-        save, arguments = arguments[1], arguments[2:]
+def main():
+    parser = argparse.ArgumentParser(
+        prog="python3 tests/model/compare.py", description=__doc__, formatter_class=argparse.RawDescriptionHelpFormatter)
+    parser.add_argument("--save", metavar="FILE", help="where the shortest script goes that shows a difference")
+    parser.add_argument("program", metavar="PROGRAM")
+    parser.add_argument("words", metavar="SEED LINES", nargs="+")
+    asked = parser.parse_args()
+    save = asked.save
     try:
-        program, tests = arguments[0], tests_of(arguments[1:])
-    except (IndexError, ValueError):
-        print(__doc__.strip(), file=sys.stderr)
-        return 2
-    if not os.path.isfile(program):
-        print("there is no program %s" % program, file=sys.stderr)
-        return 2
-    program = os.path.abspath(program)
+        tests = tests_of(asked.words)
+    except ValueError:
+        parser.error("SEED and LINES are numbers, two and two")
+    if not os.path.isfile(asked.program):
+        parser.error("there is no program %s" % asked.program)
+    program = os.path.abspath(asked.program)
 
     failed, compared = 0, 0
     for seed, most_lines in tests:
@@ -176,4 +177,4 @@ def main(arguments):
 
 
 if __name__ == "__main__":
-    sys.exit(main(sys.argv[1:]))
+    sys.exit(main())

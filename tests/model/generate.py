@@ -1,13 +1,11 @@
 """Long random scripts that reach deep into the card.
 
-    python3 tests/model/generate.py SEED LINES             writes a script
-    python3 tests/model/generate.py --report SEED LINES    counts what such a script reaches
-
 The generator runs every line that it writes on its own copy of the model. So it knows the right PINs, the challenge
 that stands, the files, their lengths and what they hold, and can aim at both sides of an edge. The script depends on
 the seed and the number of lines only.
 """
 
+import argparse
 import sys
 from collections import Counter, defaultdict
 from random import Random
@@ -1311,21 +1309,27 @@ class Report:
         return not missing
 
 
-def main(arguments):
-    wants_report = arguments[:1] == ["--report"]
-    if wants_report:
-        arguments = arguments[1:]
-    if len(arguments) != 2 or not all(argument.isdigit() for argument in arguments):
-        print(__doc__.strip(), file=sys.stderr)
-        return 2
-    seed, most_lines = int(arguments[0]), int(arguments[1])
-    if wants_report:
+def number(word):
+    """For argparse, which takes a ValueError for a refusal."""
+    if not word.isdigit():
+        raise ValueError
+    return int(word)
+
+
+def main():
+    parser = argparse.ArgumentParser(
+        prog="python3 tests/model/generate.py", description=__doc__, formatter_class=argparse.RawDescriptionHelpFormatter)
+    parser.add_argument("--report", action="store_true", help="count what the script reaches, in place of writing it")
+    parser.add_argument("seed", metavar="SEED", type=number)
+    parser.add_argument("lines", metavar="LINES", type=number)
+    asked = parser.parse_args()
+    if asked.report:
         report = Report()
-        lines = Generator(seed, most_lines, report.watch).write()
+        lines = Generator(asked.seed, asked.lines, report.watch).write()
         return 0 if report.show(len(lines)) else 1
-    sys.stdout.buffer.write(script_of(seed, most_lines))
+    sys.stdout.buffer.write(script_of(asked.seed, asked.lines))
     return 0
 
 
 if __name__ == "__main__":
-    sys.exit(main(sys.argv[1:]))
+    sys.exit(main())

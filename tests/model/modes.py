@@ -1,7 +1,5 @@
 """Runs every script of tests/scripts on cards of both modes: however replies are cut, their data are those of mode 0.
 
-    python3 tests/model/modes.py [PROGRAM [ARGUMENT]...]
-
 Each script is run with mode 0 in its ISSUE lines and with mode 1. In mode 1 GET RESPONSE follows each command that leaves data
 waiting by the model: in one run with Le 00, in another cut by chance, with refused ones between the parts. Outcome, joined
 data and last SW of every line have to be those of mode 0, and every 61xx has to say what waits. GET RESPONSE lines of the
@@ -9,8 +7,10 @@ scripts themselves are left out, for mode 0 has no such command. A script is a t
 the built one is run, target/bin/script.
 """
 
+import argparse
 import glob
 import os
+import shutil
 import subprocess
 import sys
 
@@ -173,8 +173,13 @@ def report(name, wrong):
         print("  got:      " + shown(given))
 
 
-def main(arguments):
-    command = arguments or BUILT
+def main():
+    parser = argparse.ArgumentParser(
+        usage="python3 tests/model/modes.py [-h] [PROGRAM [ARGUMENT]...]", description=__doc__, formatter_class=argparse.RawDescriptionHelpFormatter)
+    parser.add_argument("command", nargs=argparse.REMAINDER, help=argparse.SUPPRESS)
+    command = parser.parse_args().command or BUILT
+    if shutil.which(command[0]) is None:
+        parser.error("there is no program %s" % command[0])
     dice = generate.Dice(SEED)
     cuts = (("all at once", at_once), ("in parts", lambda data: in_parts(dice, data)))
     passed = failed = compared = fetched = left_out = 0
@@ -202,4 +207,4 @@ def main(arguments):
 
 
 if __name__ == "__main__":
-    sys.exit(main(sys.argv[1:]))
+    sys.exit(main())

@@ -1,4 +1,4 @@
-"""Checks that generated scripts and texts notice errors: python3 tests/model/mutants.py
+"""Checks that generated scripts and texts notice errors.
 
 Each entry changes one place of the model, as someone might misread the papers. The changed model then runs generated
 scripts; a test passes when its output differs from the true model's. So a program with that error would be caught by
@@ -7,6 +7,7 @@ cannot see, are put before the self-test instead. Errors in a card written as li
 tests/texts gives to the library, and before the self-test too.
 """
 
+import argparse
 import contextlib
 import io
 import os
@@ -849,6 +850,8 @@ def told(name, needed):
 
 
 def main():
+    argparse.ArgumentParser(
+        prog="python3 tests/model/mutants.py", description=__doc__, formatter_class=argparse.RawDescriptionHelpFormatter).parse_args()
     tests = []
     for seed in range(1, SCRIPTS + 1):
         lines = script.lines_of(generate.script_of(seed, LINES))

@@ -1,5 +1,6 @@
-"""The script program of document 01, with the mode of R-6, over the model of the card: python3 tests/model/script.py < FILE"""
+"""The script program of document 01, with the mode of R-6, over the model of the card, from standard input to standard output."""
 
+import argparse
 import re
 import sys
 
@@ -108,6 +109,7 @@ def run(lines):
 
 
 def main():
+    argparse.ArgumentParser(prog="python3 tests/model/script.py", description=__doc__).parse_args()
     sys.stdout.buffer.write(run(lines_of(sys.stdin.buffer.read())))
 
 

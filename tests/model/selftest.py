@@ -1,10 +1,9 @@
 """Checks the model itself against document 01 and requests R-1, R-2, R-4, R-5 and R-6 of document 02.
 
-    python3 tests/model/selftest.py
-
 The expected answers are worked out from the papers.
 """
 
+import argparse
 import sys
 
 import card as cards
@@ -1638,6 +1637,8 @@ def test_generated():
 
 
 def main():
+    argparse.ArgumentParser(
+        prog="python3 tests/model/selftest.py", description=__doc__, formatter_class=argparse.RawDescriptionHelpFormatter).parse_args()
     for test in (test_cipher, test_example, test_edges, test_errors_that_look_right, test_calls, test_variable_soundness,
                  test_variable_space, test_variable_records, test_variable_many, test_text_example, test_text_fields,
                  test_text_lines, test_text_sizes, test_text_calls, test_text_generated, test_framing, test_files, test_read_to_end,

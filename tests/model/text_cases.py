@@ -1,6 +1,6 @@
 """Cases for the C program texts: cards to write as lines and texts to read, with what the model says of each.
 
-    python3 tests/model/text_cases.py SEED COUNT    writes the cases of a seed, COUNT changed texts among them
+It writes the cases of a seed, COUNT changed texts among them.
 
 A case is a letter and its fields, each four bytes of length, the lowest first, and so many bytes:
 
@@ -15,6 +15,7 @@ A case is a letter and its fields, each four bytes of length, the lowest first, 
 A card is in the bytes of tests/c/layout.h, and contents are the bytes of its files. The cases depend on seed and count only.
 """
 
+import argparse
 import struct
 import sys
 
@@ -923,13 +924,14 @@ def cases(seed, count, put):
         put(text_record(kind, text))
 
 
-def main(arguments):
-    if len(arguments) != 2 or not all(argument.isdigit() for argument in arguments):
-        print(__doc__.strip(), file=sys.stderr)
-        return 2
-    cases(int(arguments[0]), int(arguments[1]), sys.stdout.buffer.write)
-    return 0
+def main():
+    parser = argparse.ArgumentParser(
+        prog="python3 tests/model/text_cases.py", description=__doc__, formatter_class=argparse.RawDescriptionHelpFormatter)
+    parser.add_argument("seed", metavar="SEED", type=generate.number)
+    parser.add_argument("count", metavar="COUNT", type=generate.number)
+    asked = parser.parse_args()
+    cases(asked.seed, asked.count, sys.stdout.buffer.write)
 
 
 if __name__ == "__main__":
-    sys.exit(main(sys.argv[1:]))
+    main()

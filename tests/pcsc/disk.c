@@ -1,8 +1,8 @@
 /*
  * Stands between a program and the disk, with --wrap of the linker. The environment names one of the calls that reader/store.c
- * makes, by its number: DISK_FAILS, where that call fails as on a full disk; DISK_KILLS, where the program is killed before it;
- * DISK_STOPS, where it stops before it until it is sent SIGCONT. Half of what a write was to write is on the disk in the first two.
- * DISK_LOG names a file to which each call is written that works.
+ * makes, by its number: DISK_FAILS, where that call fails as on a full disk, or by the number of errno in DISK_ERROR; DISK_KILLS,
+ * where the program is killed before it; DISK_STOPS, where it stops before it until it is sent SIGCONT. Half of what a write was to
+ * write is on the disk in the first two. DISK_LOG names a file to which each call is written that works.
  */
 #define _DEFAULT_SOURCE
 #include <errno.h>
@@ -11,6 +11,7 @@
 #include <stdbool.h>
 #include <stdio.h>
 #include <stdlib.h>
+#include <string.h>
 #include <sys/stat.h>
 #include <unistd.h>
 
@@ -18,8 +19,9 @@ int __real_openat(int folder, const char *name, int flags, mode_t mode);
 ssize_t __real_write(int file, const void *bytes, size_t len);
 int __real_fchmod(int file, mode_t mode);
 int __real_fsync(int file);
+int __real_ftruncate(int file, off_t len);
 int __real_renameat(int from_folder, const char *from, int to_folder, const char *to);
-int __real_linkat(int from_folder, const char *from, int to_folder, const char *to, int flags);
+int __real_renameat2(int from_folder, const char *from, int to_folder, const char *to, unsigned flags);
 int __real_unlinkat(int folder, const char *name, int flags);
 
 static bool is_number(const char *variable, int number)
@@ -40,6 +42,12 @@ static enum fate next_call(void)
     return is_number("DISK_FAILS", calls) ? FAILS : is_number("DISK_KILLS", calls) ? KILLED : WORKS;
 }
 
+static int why(void)
+{
+    const char *error = getenv("DISK_ERROR");
+    return error == NULL ? ENOSPC : atoi(error);
+}
+
 static void note(const char *call)
 {
     FILE *log = getenv("DISK_LOG") == NULL ? NULL : fopen(getenv("DISK_LOG"), "a");
@@ -58,7 +66,7 @@ static bool made(const char *call)
     if (fate == KILLED)
         raise(SIGKILL);
     if (fate == FAILS)
-        errno = ENOSPC;
+        errno = why();
     else
         note(call);
     return fate == WORKS;
@@ -66,7 +74,7 @@ static bool made(const char *call)
 
 int __wrap_openat(int folder, const char *name, int flags, mode_t mode)
 {
-    return made("openat") ? __real_openat(folder, name, flags, mode) : -1;
+    return made(strcmp(name, ".") == 0 ? "openat of the folder" : "openat") ? __real_openat(folder, name, flags, mode) : -1;
 }
 
 ssize_t __wrap_write(int file, const void *bytes, size_t len)
@@ -79,13 +87,18 @@ ssize_t __wrap_write(int file, const void *bytes, size_t len)
     }
     if (__real_write(file, bytes, len / 2) >= 0 && fate == KILLED)
         raise(SIGKILL);
-    errno = ENOSPC;
+    errno = why();
     return -1;
 }
 
 int __wrap_fchmod(int file, mode_t mode)
 {
     return made("fchmod") ? __real_fchmod(file, mode) : -1;
+}
+
+int __wrap_ftruncate(int file, off_t len)
+{
+    return made("ftruncate") ? __real_ftruncate(file, len) : -1;
 }
 
 int __wrap_fsync(int file)
@@ -101,9 +114,9 @@ int __wrap_renameat(int from_folder, const char *from, int to_folder, const char
     return made("renameat") ? __real_renameat(from_folder, from, to_folder, to) : -1;
 }
 
-int __wrap_linkat(int from_folder, const char *from, int to_folder, const char *to, int flags)
+int __wrap_renameat2(int from_folder, const char *from, int to_folder, const char *to, unsigned flags)
 {
-    return made("linkat") ? __real_linkat(from_folder, from, to_folder, to, flags) : -1;
+    return made("renameat2") ? __real_renameat2(from_folder, from, to_folder, to, flags) : -1;
 }
 
 int __wrap_unlinkat(int folder, const char *name, int flags)

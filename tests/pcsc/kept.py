@@ -25,7 +25,7 @@ def tool(*words, text=""):
 def alarms(*numbers):
     """That tools/alarms prints the alarms with these numbers, and no other."""
     status, out, err = tool("tools/alarms", "--pin-from", "-", text="123456\n")
-    got = [line.split()[0] for line in out.splitlines()[1:]]
+    got = [line.split()[0] for line in out.splitlines() if line.startswith(" ")][1:]  # behind the heading
     check(f"the alarms are {numbers}", (status, got, err) == (0, [str(number) for number in numbers], ""), (status, out, err))
 
 

@@ -1,5 +1,6 @@
 #!/usr/bin/env python3
-"""docs/STANDBY.md: each transcript is typed at a terminal, in order, and has to come out as the page has it.
+"""docs/STANDBY.md, ELECTRICIAN.md and OFFICE.md: each transcript is typed at a terminal, in order, and has to come out as the page
+has it.
 
 A transcript is a block marked console. A line with $ is typed at the shell. Below it a command in hex, reset and exit are typed
 to scriptor, each when the one before is answered; the rest is what the terminal shows. What is typed without being shown stands
@@ -7,7 +8,8 @@ in a remark before the block, and mode 1 where the card is one of mode 1. Blanks
 
 The card of mode 1 is made as the page says. So is one with C2 for its alarms, and each PIN opens it.
 
-The table of status words has to be whole: each that a transcript shows is in it, and each that the rules name is on the page.
+The tables of status words have to be whole: each that a transcript shows is in that of its page or of STANDBY.md, and each that the
+rules name is on a page.
 """
 import contextlib
 import glob
@@ -18,7 +20,7 @@ import tempfile
 
 from stack import ROOT, SECONDS, OpenscTool, Scriptor, Terminal, card, card_present, check, end, wait_until
 
-PAGE = os.path.join(ROOT, "docs", "STANDBY.md")
+PAGES = ("STANDBY", "ELECTRICIAN", "OFFICE")
 BLOCK = re.compile(r"(?:<!-- (mode 1)?(?:, )?(?:typed: (\S+))? -->\n)?```console\n(.*?)```\n", re.DOTALL)
 TYPED = re.compile(r"[0-9A-F]{8,}|reset|exit")
 
@@ -53,35 +55,49 @@ def first_difference(lines, got):
     return ""
 
 
-with open(PAGE, encoding="utf-8") as file:
-    page = file.read()
+def text_of(name):
+    with open(os.path.join(ROOT, "docs", f"{name}.md"), encoding="utf-8") as file:
+        return file.read()
 
-blocks = BLOCK.findall(page)
-check("the page has transcripts", len(blocks) >= 6, len(blocks))
-check("every console block is read", page.count("```console") == len(blocks), len(blocks))
+
+texts = {name: text_of(name) for name in PAGES}
+blocks = {name: BLOCK.findall(text) for name, text in texts.items()}
+for each in PAGES:
+    check(f"{each} has transcripts", blocks[each])
+    check(f"every console block of {each} is read", texts[each].count("```console") == len(blocks[each]), len(blocks[each]))
+page = "\n".join(texts.values())
+run = {name: "".join(block for _, _, block in found) for name, found in blocks.items()}
 
 # A command in a table that no transcript runs could be wrong without being noticed.
-run = "".join(block for _, _, block in blocks)
-for command in sorted(set(re.findall(r"`([0-9A-F]{8,})`", page))):
-    check(f"{command} is in a transcript", re.search(rf"(^|-s ){command}( |$)", run, re.MULTILINE) is not None)
+for quoted in sorted(set(re.findall(r"`([0-9A-F]{8,})`", page))):
+    typed = re.search(rf"(^|-s ){quoted}( |$)", "\n".join(run.values()), re.MULTILINE)
+    check(f"{quoted} is in a transcript", typed is not None)
+
+
+def shown_in(name):
+    """The status words that the transcripts of a page show."""
+    by_scriptor = re.findall(r"\b([0-9A-F]{2}) ([0-9A-F]{2}) :", run[name])  # also in the last line of a long answer
+    by_opensc = re.findall(r"SW1=0x(..), SW2=0x(..)", run[name])
+    return {high + low for high, low in by_scriptor + by_opensc}
 
 
 def status_words():
-    rows = re.findall(r"^\| ([0-9A-F]{4})(?: to ([0-9A-F]{4}))? \|", page, re.MULTILINE)
-    by_scriptor = re.findall(r"\b([0-9A-F]{2}) ([0-9A-F]{2}) :", run)  # also in the last line of a long answer
-    by_opensc = re.findall(r"SW1=0x(..), SW2=0x(..)", run)
-    shown = {high + low for high, low in by_scriptor + by_opensc}
-    for word in sorted(shown):
-        check(f"the table has {word}", any(first <= word <= (last or first) for first, last in rows), rows)
-    for first, last in rows:
-        check(f"a transcript shows {first}", any(first <= word <= (last or first) for word in shown), shown)
+    rows = {name: re.findall(r"^\| ([0-9A-F]{4})(?: to ([0-9A-F]{4}))? \|", text, re.MULTILINE) for name, text in texts.items()}
+    shown = {name: shown_in(name) for name in PAGES}
+    for name in PAGES:
+        told = rows["STANDBY"] + rows[name]
+        for word in sorted(shown[name]):
+            check(f"{name}: a table has {word}", any(first <= word <= (last or first) for first, last in told), told)
+        for first, last in rows[name]:
+            check(f"{name}: a transcript shows {first}",
+                  any(first <= word <= (last or first) for words in shown.values() for word in words), shown)
     rules = ""
     for path in glob.glob(os.path.join(ROOT, "crates", "rules", "specs", "*.antt")):
         with open(path, encoding="utf-8") as file:
             rules += file.read()
     for word in sorted(set(re.findall(r"\b0x(9000|6[0-9A-F]{3})\b", rules))):
         on_page = "6C08" if word == "6C00" else word  # 6C and the record's length
-        check(f"the page speaks of {word}", re.search(rf"\b{on_page}\b", page) is not None)
+        check(f"a page speaks of {word}", re.search(rf"\b{on_page}\b", page) is not None)
 
 
 @contextlib.contextmanager
@@ -102,15 +118,17 @@ def changed_box(name, change):
             yield reader
 
 
-def transcripts(mode, box):
+def transcripts(mode, box, *names):
+    """The transcripts of the pages, all on one card."""
     with box as reader:
         answers = re.findall("^< (.*)$", reader.said().partition("limpet-reader: ")[0], re.MULTILINE)
         first = "6110" if mode else "00112233445566778899AABBCCDDEEFF9000"  # in mode 1 the challenge waits
         check(f"the script of the box is served throughout {mode}", answers == [first] + ["9000"] * 11, answers)
-        for number, (of_mode, hidden, block) in enumerate(blocks, 1):
-            for command, lines in calls(block) if of_mode == mode else ():
-                got = seen(command, lines, hidden)
-                check(f"transcript {number}, {command}", got == lines, first_difference(lines, got))
+        for name in names:
+            for number, (of_mode, hidden, block) in enumerate(blocks[name], 1):
+                for command, lines in calls(block) if of_mode == mode else ():
+                    got = seen(command, lines, hidden)
+                    check(f"{name}, transcript {number}, {command}", got == lines, first_difference(lines, got))
 
 
 def alarms_with(pin, *words):
@@ -123,7 +141,7 @@ def alarms_with(pin, *words):
 def either_pin():
     """The card that the page has the reader make for practising with C2: each PIN opens the alarms, and none does not."""
     check("the page has the call for the office", "\n    tools/alarms --admin\n" in page)
-    table = re.search(r"^    number .*\n(?: .*\n){4}", page, re.MULTILINE)[0]
+    table = re.search(r"^card in .*\n    number .*\n(?: .*\n){4}oldest .*\n", page, re.MULTILINE)[0]
     with changed_box("office", "80E0A101052E0408C201"):
         client = OpenscTool()
         got = client.send("00B2010C00")
@@ -188,8 +206,9 @@ def programs():
 
 status_words()
 service()
-transcripts("", card("examples/box.script"))
-transcripts("mode 1", changed_box("board", "\t123456\t3\t1\n"))
+transcripts("", card("examples/box.script"), "STANDBY", "OFFICE")  # the office opens what the standby phone has blocked
+transcripts("", card("examples/box.script"), "ELECTRICIAN")
+transcripts("mode 1", changed_box("board", "\t123456\t3\t1\n"), *PAGES)
 either_pin()
 programs()
 end()

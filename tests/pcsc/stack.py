@@ -17,6 +17,7 @@ ROOT = os.path.dirname(os.path.dirname(os.path.dirname(os.path.abspath(__file__)
 X86 = os.path.join(ROOT, "tools", "x86", "run")  # runs the reader's program on this machine
 READER = os.path.join(ROOT, "target", "reader", "limpet-reader")
 UNSERVED = os.path.join(ROOT, "target", "reader", "unserved")  # the same over unserved.c
+PORT = 35963  # vpcd's, for the first of its slots
 SECONDS = 20  # how long anything may take before it counts as not coming
 
 KEY, ADMIN_PIN, USER_PIN = "000102030405060708090A0B0C0D0E0F", "87654321", "123456"
@@ -26,8 +27,9 @@ passed = failed = 0
 
 # So that what was started is ended where a test is stopped from outside.
 signal.signal(signal.SIGTERM, lambda *_: sys.exit(1))
-# What a script starts in the background ignores Ctrl-C, and so would a reader that is started here.
+# What a script starts in the background ignores SIGINT and SIGQUIT, and so would a program that is started here.
 signal.signal(signal.SIGINT, signal.default_int_handler)
+signal.signal(signal.SIGQUIT, signal.SIG_DFL)
 
 
 def check(name, good, seen=""):
@@ -100,23 +102,23 @@ class Reader:
         self.log.close()
 
 
-def card_present():
+def card_present(slot=0):
     listed = subprocess.run(["opensc-tool", "-l"], capture_output=True, text=True, timeout=SECONDS).stdout
-    return re.search(r"^0 +Yes ", listed, re.MULTILINE) is not None
+    return re.search(rf"^{slot} +Yes ", listed, re.MULTILINE) is not None
 
 
 @contextlib.contextmanager
-def card(*words):
-    """A card in the virtual reader, seen by pcscd, until the block ends."""
-    reader = Reader(["--verbose", *words])
+def card(*words, slot=0):
+    """A card in the virtual reader, seen by pcscd, until the block ends. slot: vpcd has two, which programs take for two readers."""
+    reader = Reader(["--verbose", "--port", str(PORT + slot), *words])
     try:
-        wait_until(lambda: card_present() or reader.process.poll() is not None, "a card in the reader")
+        wait_until(lambda: card_present(slot) or reader.process.poll() is not None, "a card in the reader")
         if reader.process.poll() is not None:
             raise RuntimeError(reader.said())
         yield reader
     finally:
         reader.end()
-        wait_until(lambda: not card_present(), "the card's removal")
+        wait_until(lambda: not card_present(slot), "the card's removal")
 
 
 # ---- programs at a terminal, and the two clients

@@ -1,18 +1,23 @@
 #!/usr/bin/env python3
 """The reader's program without pcscd: its arguments, and its side of vpcd's messages with this test as the virtual reader."""
 import contextlib
+import errno
 import os
 import random
+import re
 import socket
 import stat
 import subprocess
 import tempfile
 import threading
 import time
+from unittest import mock
 
+from mounts import left_out, mounted
 from stack import (ADMIN_PIN, ISSUE_WORDS, KEY, READER, ROOT, SECONDS, UNSERVED, USER_PIN, X86, Reader, check, end, issue_line,
                    wait_until)
 
+DISK = os.path.join(ROOT, "target", "reader", "disk")  # the reader over disk.c
 OFF, ON, RESET, GET_ATR = (bytes([code]) for code in (0, 1, 2, 4))
 QUERY, RIGHT_PIN = bytes.fromhex("00200001"), bytes.fromhex("0020000106313233343536")
 GET_RESPONSE = bytes.fromhex("00C0000000")  # all that wait
@@ -334,14 +339,23 @@ class Kept:
     def __init__(self, folder, text=None):
         self.folder = folder
         self.path = os.path.join(folder, "box.card")
-        self.next = os.path.join(folder, ".box.card.new")
         if text is not None:
-            with open(self.path, "w", encoding="ascii", opener=lambda path, flags: os.open(path, flags, 0o600)) as file:
-                file.write(text)
+            self.write(text)
+
+    def write(self, text):
+        with open(self.path, "w", encoding="ascii", opener=lambda path, flags: os.open(path, flags, 0o600)) as file:
+            file.write(text)
 
     def read(self):
+        """None where it is not there."""
+        if not os.path.exists(self.path):
+            return None
         with open(self.path, encoding="ascii") as file:
             return file.read()
+
+    def beside(self):
+        """What else is in the folder."""
+        return [name for name in os.listdir(self.folder) if name != "box.card"]
 
     def which(self):
         """Another number where it was stored again."""
@@ -424,12 +438,6 @@ def kept_later():
             check("which changes nothing that lasts", kept.which() == before and kept.read() == due, kept.read())
             check("a wrong PIN", line.ask(WRONG_PIN) == "63C2")
             check("is in the file", kept.read() == due.replace("3\t3\n", "3\t2\n"), kept.read())
-            os.mkdir(kept.next)
-            check("data wait again", line.ask(bytes.fromhex("0084000010")) == "6110")
-            check("a command that cannot be stored is 6F00", line.ask(WRONG_PIN) == "6F00")
-            rest = line.ask(GET_RESPONSE)
-            check("and was not done, so the data still wait", len(rest) == 36 and rest.endswith("9000"), rest)
-            os.rmdir(kept.next)
     with kept_card(new_card(session="0\t0\t0\t-\t00112233\t1\t00112233")) as kept:
         with connected("--card", kept.path) as (line, _):
             check("waiting bytes of a file are gone in the reader", line.ask(GET_RESPONSE) == "6985")
@@ -447,48 +455,137 @@ def stored_before_the_answer():
             check("is in the file with its answer", kept.read() == new_card(2))
             check("the right one", line.ask(RIGHT_PIN) == "9000")
             check("is too, without the right", kept.read() == new_card(3))
-            before = kept.which()
-            for name, command in (("a question", "00200001"), ("the right PIN again", RIGHT_PIN.hex()),
-                                  ("a challenge", "0084000010"), ("no command", "05"), ("no such file", "00A4000002A101")):
+            for name, command in (("a question", "00200001"), ("the right PIN again", RIGHT_PIN.hex()), ("no command", "05"),
+                                  ("a login without a challenge", "0082000010" + "00" * 16), ("another class", "80A4000002A101")):
+                before = kept.which()
                 line.ask(bytes.fromhex(command))
-                check(f"{name} changes nothing that lasts, and is not stored", kept.which() == before and kept.read() == new_card())
+                check(f"{name} changes nothing, and is stored", kept.which() != before and kept.read() == new_card(), command)
+            before = kept.which()
+            for name, command in (("a challenge", "0084000010"), ("no such file", "00A4000002A101"), ("no bytes", "00B0820001"),
+                                  ("no record", "00B2010C00"), ("nothing that waits", GET_RESPONSE.hex())):
+                line.ask(bytes.fromhex(command))
+                check(f"{name} only reads, and is not stored", kept.which() == before and kept.read() == new_card(), command)
             for code in (OFF, ON, RESET):
                 line.put(code)
-            check("nor is a reset", line.ask(QUERY) == "63C3" and kept.which() == before)
-            check("nothing stands beside it", os.listdir(kept.folder) == ["box.card"], os.listdir(kept.folder))
+            line.ask(GET_ATR)
+            check("nor is a reset", kept.which() == before)
+            check("nothing stands beside it", kept.beside() == [], kept.beside())
+    with kept_card(new_card()) as kept:
+        before = kept.which()
+        with connected("--card", kept.path) as (line, _):
+            line.ask(GET_ATR)
+            check("at the start a card is really written", kept.which() != before and kept.read() == new_card())
+
+
+READ = bytes.fromhex("00B2010C00")
+OUT = "limpet-reader: the card is out of the reader: no command is run on a card that cannot be stored\n"
+
+
+def lost(name, kept, change, why, program=READER, tries=2, last=WRONG_PIN, due=new_card(2)):
+    """A PIN is answered and leaves so many tries, then the file cannot be stored any more: the next command is answered 6F00, and
+    no other is."""
+    kept.write(new_card())
+    with connected("--card", kept.path, program=program) as (line, reader):
+        before = (WRONG_PIN, "63C2") if tries == 2 else (RIGHT_PIN, "9000")
+        check(f"{name}: a PIN before", line.ask(before[0]) == before[1] and kept.read() == new_card(tries))
+        undo = change()
+        got = [line.ask(last)]
+        with contextlib.suppress(RuntimeError, OSError):  # the connection is closed
+            for command in (RIGHT_PIN, READ):
+                got.append(line.ask(command))
+        with contextlib.suppress(subprocess.TimeoutExpired):
+            reader.process.wait(SECONDS)
+        seen = got, reader.process.returncode, reader.said()
+        said = reader.said().endswith(f"limpet-reader: {why}\n{OUT}")
+        check(f"{name}: 6F00 to {last.hex()}, and an end", seen[:2] == (["6F00"], 1) and said, seen)
+        check(f"{name}: the file after {last.hex()}", kept.read() == due, kept.read())
+    if undo is not None:
+        undo()
 
 
 def not_stored():
-    """Where the file cannot be stored the command was not done. A folder stands in the way of the new file here."""
-    with kept_card(new_card()) as kept, connected("--card", kept.path) as (line, reader):
-        check("the right PIN", line.ask(RIGHT_PIN) == "9000")
-        os.mkdir(kept.next)
-        check("a command that cannot be stored is 6F00", line.ask(WRONG_PIN) == "6F00")
-        why = f"limpet-reader: cannot store {kept.path}: Is a directory; it is as it was\n"
-        check("the terminal says why", why in reader.said(), reader.said())
-        check("the card is as it was, and so is its right", line.ask(QUERY) == "9000")
-        check("the file too", kept.read() == new_card())
-        line.put(RESET)
-        check("a reset drops the right all the same", line.ask(QUERY) == "63C3")
-        check("again", line.ask(WRONG_PIN) == "6F00" and line.ask(QUERY) == "63C3")
-        os.rmdir(kept.next)
-        check("then it can be stored again", line.ask(WRONG_PIN) == "63C2" and kept.read() == new_card(2))
-        with open(kept.next, "w", encoding="ascii") as file:
-            file.write("left over")
-        check("what a killed reader left is no hindrance", line.ask(WRONG_PIN) == "63C1")
-        check("and goes", os.listdir(kept.folder) == ["box.card"], os.listdir(kept.folder))
-        os.remove(kept.path)
-        check("a file that is removed is 6F00", line.ask(WRONG_PIN) == "6F00" and line.ask(QUERY) == "63C1")
-        check("and is not made again", os.listdir(kept.folder) == [], os.listdir(kept.folder))
-        check("as the terminal says", "another program has removed or replaced it" in reader.said(), reader.said())
+    """No command is run on a card that cannot be stored: whoever guesses then guesses for nothing."""
+    last = WRONG_PIN, RIGHT_PIN, QUERY, READ
+    other = new_card(1)
+    with kept_card() as kept:
+        def replaced():
+            os.remove(kept.path)
+            kept.write(other)
+
+        gone = f"cannot store {kept.path}: another program has removed or replaced it"
+        for command in last:
+            lost("a file that is removed", kept, lambda: os.remove(kept.path), gone, last=command, due=None)
+        lost("a file that is replaced", kept, replaced, gone, due=other)
+        check("nothing stands beside it", kept.beside() == [], kept.beside())
+    with mounted() as mount:
+        if mount is None:
+            left_out("the reader on a full and on a read-only file system")
+            return
+        kept = Kept(mount.path, new_card())
+        mount.fill()
+        full = f"cannot store {kept.path}: No space left on device; it is as it was"
+        refused("a full disk at the start", 1, f"limpet-reader: {full}\n", "--card", kept.path)
+        mount.empty()
+        for command in last:
+            for tries in (2, 3):
+                change = lambda: (mount.fill(), mount.empty)[1]
+                lost(f"a full disk, {tries} tries", kept, change, full, tries=tries, last=command, due=new_card(tries))
+        check("nothing stands beside it", kept.beside() == [], kept.beside())
+        mount.read_only()
+        refused("a read-only disk", 1, f"limpet-reader: cannot open {kept.path}: Read-only file system\n", "--card", kept.path)
+
+
+def disk(**variables):
+    """What disk.c does to programs that are started meanwhile."""
+    return mock.patch.dict(os.environ, {f"DISK_{name}": str(value) for name, value in variables.items()})
+
+
+def each_call_fails():
+    """Each call of a store fails in turn, at the start and in the middle of a session."""
+    with kept_card() as kept, tempfile.NamedTemporaryFile("r", prefix="limpet-log-") as log:
+        kept.write(new_card())
+        with disk(LOG=log.name), connected("--card", kept.path, program=DISK) as (line, _):
+            line.ask(GET_ATR)
+            begun = len(log.read().splitlines())
+            line.ask(WRONG_PIN)
+            calls = log.read().splitlines()
+        due = ["openat", "fchmod", "write", "write", "ftruncate", "fsync", "renameat", "fsync of the folder"]
+        check("the calls of a store", calls == due, calls)
+        for number in range(2, begun + 1):
+            kept.write(new_card())
+            with disk(FAILS=number):
+                words = [X86, DISK, "--port", "1", "--card", kept.path]
+                ended = subprocess.run(words, capture_output=True, text=True, timeout=SECONDS)
+            # Nothing that was left is found where the folder cannot be listed, and that is all.
+            good = ended.returncode == 1 and ("No space left on device" in ended.stderr) == (number != 2) and kept.beside() == []
+            check(f"call {number} fails at the start", good and kept.read() == new_card(), ended.stderr)
+        for number, call in enumerate(calls, 1):
+            with disk(FAILS=begun + len(calls) + number):
+                why, due = f"cannot store {kept.path}: No space left on device; it is as it was", new_card(2)
+                if call == "fsync of the folder":
+                    why = (f"{kept.path} has the new card, but its folder is not on the disk: No space left on device. "
+                           "Should the power fail now it may be as before")
+                for command, stored in ((WRONG_PIN, new_card(1)), (RIGHT_PIN, new_card(3))):
+                    due = stored if call == "fsync of the folder" else new_card(2)
+                    lost(f"call {number} fails, {call}", kept, lambda: None, why, DISK, last=command, due=due)
+        for number, why in ((errno.EROFS, "Read-only file system"), (errno.EACCES, "Permission denied")):
+            with disk(FAILS=begun + len(calls) + 1, ERROR=number):
+                lost(why, kept, lambda: None, f"cannot store {kept.path}: {why}; it is as it was", DISK)
+        check("nothing stands beside it", kept.beside() == [], kept.beside())
+
+
+def one_at_a_time():
     with kept_card(new_card(session="1\t0\t0\t-\t-\t0\t-")) as kept:
-        os.mkdir(kept.next)
-        refused("a file that cannot be stored is noticed at the start", 1, "cannot store", "--card", kept.path)
-        os.rmdir(kept.next)
+        with open(os.path.join(kept.folder, ".box.card.7-0123abcd.new"), "w", encoding="ascii") as file:
+            file.write("left over")
         with connected("--card", kept.path) as (line, reader):
             line.ask(QUERY)
+            check("what a killed reader left is gone", kept.beside() == [], kept.beside())
             refused("a second reader on one card", 1, f"{kept.path} is in use", "--card", kept.path)
             check("the first goes on", line.ask(WRONG_PIN) == "63C2" and kept.read() == new_card(2))
+    with kept_card(new_card()) as kept:
+        os.link(kept.path, os.path.join(kept.folder, "twin"))
+        refused("a card with two names", 1, f"{kept.path} has 2 names (hard links)", "--card", kept.path)
 
 
 def killed_at_random():
@@ -497,24 +594,26 @@ def killed_at_random():
     with kept_card() as kept, tempfile.NamedTemporaryFile("w", prefix="limpet-script-") as script:
         script.write(lines_of(*LOGIN, "80E0A102052800040000"))
         script.flush()
-        value, kills = 0, 20
-        for turn in range(kills):
+        value = 0
+        for turn in range(20):
             with connected("--card", kept.path, "--prepare", script.name, *ISSUE_WORDS) as (line, reader):
                 line.ask(QUERY)
-                threading.Timer(dice.uniform(0, 0.05), reader.process.kill).start()
-                begun = value
+                kill = threading.Timer(dice.uniform(0, 0.05), reader.process.kill)
+                begun, sure = value, value + dice.randrange(4)  # so many are answered, however slow the machine is
                 with contextlib.suppress(RuntimeError, OSError):
-                    while line.ask(bytes.fromhex(f"00D6820004{value + 1:08X}")) == "9000":
+                    while value != sure or kill.start() is None:
+                        if line.ask(bytes.fromhex(f"00D6820004{value + 1:08X}")) != "9000":
+                            break
                         value += 1
                 reader.process.wait(SECONDS)
             stored = int(kept.read().splitlines()[-1], 16)
-            good = value <= stored <= value + 1 and set(os.listdir(kept.folder)) <= {"box.card", ".box.card.new"}
-            check(f"killed after {value - begun} answers", good, (value, stored, os.listdir(kept.folder)))
+            left = all(re.fullmatch(r"\.box\.card\.\d+-[0-9a-f]{8}\.new", name) for name in kept.beside())
+            good = sure <= value <= stored <= value + 1 and left and len(kept.beside()) < 2
+            check(f"killed after {value - begun} answers", good, (sure, value, stored, kept.beside()))
             value = stored
-        check("values were written", value > kills, value)
 
 
 for test in (arguments, scripts, messages, taken, broken, mode_asked, later, prepared, refused_lines, unserved, made_or_loaded,
-             kept_later, stored_before_the_answer, not_stored, killed_at_random):
+             kept_later, stored_before_the_answer, not_stored, each_call_fails, one_at_a_time, killed_at_random):
     test()
 end()

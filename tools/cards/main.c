@@ -5,7 +5,9 @@
 #include <string.h>
 
 #include "card.h"
+#include "ends.h"
 #include "form.h"
+#include "process.h"
 #include "run.h"
 #include "say.h"
 #include "script.h"
@@ -33,18 +35,23 @@ static const char usage[] =
     "       hex digits, each PIN 6 to 16 digits, each limit 1 to 128, the mode 0 (data\n"
     "       come with the answer; so it is without a mode) or 1 (they wait for GET\n"
     "       RESPONSE). With - in place of the key or a PIN it is read from standard\n"
-    "       input, one a line; at a terminal it is asked for and not shown. Others on the\n"
-    "       same machine can see the words of a command line, and not what is typed or\n"
-    "       piped. Or a script makes the card: an ISSUE line, and CMD and RESET lines that\n"
+    "       input, one a line; at a terminal each is asked for twice, and not shown. The\n"
+    "       words of a command line stay in the shell's history and in the terminal's\n"
+    "       scrollback, and others on the same machine can see them; not so what is typed\n"
+    "       at these questions, or piped.\n"
+    "       Or a script makes the card: an ISSUE line, and CMD and RESET lines that\n"
     "       prepare it. Where one of its lines is not served, no card is made; where the\n"
     "       card refuses one by a status word, that is said, and the card is made.\n"
     "run    runs the CMD and RESET lines of a script on the card, and prints for each\n"
     "       line what ./limpet prints (./limpet --help). The session goes on where the\n"
     "       last run left it: rights, current file, challenge, waiting bytes; RESET ends\n"
-    "       it. The card is stored once, when the script has ended.\n"
-    "       An ISSUE line ends the run, and nothing is stored: what follows it is for\n"
-    "       another card, and could block the PINs of this one. Two runs on one card wait\n"
-    "       for each other, up to 5 seconds.\n"
+    "       it. The card is stored before an answer is printed, so what was answered is in\n"
+    "       CARD, however the run ends. A line that is sent by a pipe or a terminal is\n"
+    "       stored and answered at once; the lines of a file are stored in blocks. No line\n"
+    "       is run on a card that cannot be stored.\n"
+    "       An ISSUE line ends the run, and what was answered is stored: what follows it is\n"
+    "       for another card, and could block the PINs of this one. Two runs on one card\n"
+    "       wait for each other, up to 5 seconds.\n"
     "show   prints tries left, mode, files and free space: no key, PIN, challenge or\n"
     "       contents, and of waiting bytes only how many there are.\n"
     "check  says whether the file is accepted, and where not, at which line and why, as\n"
@@ -53,9 +60,10 @@ static const char usage[] =
     "SCRIPT may be a pipe, and - is standard input. CARD is replaced as a whole, so\n"
     "whatever goes wrong it holds the card of before or the new one.\n"
     "\n"
-    "Status: 0 when all was done; 1 for an error: CARD is as it was, unless the message\n"
-    "says otherwise; 1 from check where CARD is refused; 2 for bad usage; 3 from run where\n"
-    "the card was stored, but some lines were not run (their outcome is not 0).\n"
+    "Status: 0 when all was done; 1 for an error: CARD is as it was, but for what run has\n"
+    "answered, unless the message says otherwise; 1 from check where CARD is refused; 2 for\n"
+    "bad usage; 3 from run where the card was stored, but some lines were not run (their\n"
+    "outcome is not 0). Ctrl-C, SIGTERM and SIGHUP end run after the present line.\n"
     "\n"
     "  tools/card new box.card - 128 - 5 - 3         asks for the key and the PINs\n"
     "  tools/card new box.card examples/box.script   the box of docs/STANDBY.md\n"
@@ -75,17 +83,32 @@ static int bad_usage(const char *why)
 
 /* ------------------------------------------------------------ new */
 
-/* Where - stands for a key or a PIN, the line of standard input that takes its place. */
-struct secrets {
-    struct text key, admin_pin, user_pin;
-};
-
-static bool take_secret(char **word, const char *name, struct text *t)
+/* A secret that is a word of the command line is gone from the list of processes before the others are asked for. */
+static void take_word(char *word, struct text *t)
 {
-    if (strcmp(*word, "-") != 0)
-        return true;
-    *word = (char *)t->at;
-    return read_secret(name, t);
+    memcpy(t->at, word, strlen(word) + 1);
+    wipe(word, strlen(word));
+}
+
+/* Where - stands for a key or a PIN, a line of standard input takes its place. lines: room for each. */
+static bool take_secrets(char *word[ISSUE_FIELDS], struct text lines[ISSUE_SECRETS])
+{
+    static const char *const names[ISSUE_SECRETS] = { "device key", "admin PIN", "user PIN" };
+    struct secret wanted[ISSUE_SECRETS];
+    size_t count = 0;
+
+    for (size_t i = 0; i < ISSUE_SECRETS; i++) {
+        char *given = word[2 * i];
+
+        if (strcmp(given, "-") == 0)
+            wanted[count++] = (struct secret){ names[i], &lines[i] };
+        else if (strlen(given) <= LONGEST_LINE)
+            take_word(given, &lines[i]);
+        else
+            continue; /* no secret is so long, and it is refused */
+        word[2 * i] = (char *)lines[i].at;
+    }
+    return read_secrets(wanted, count);
 }
 
 /* The mode, the last of them, may be missing: then it is 0. */
@@ -93,16 +116,15 @@ static bool issue_values(int words, char *const given[])
 {
     static char room[BUFSIZ]; /* lasts as long as standard input */
     static char mode_0[] = "0";
-    struct secrets s;
+    struct text lines[ISSUE_SECRETS];
     char *word[ISSUE_FIELDS];
     bool good;
 
     setvbuf(stdin, room, _IOFBF, sizeof room);
     word[ISSUE_FIELDS - 1] = mode_0;
     memcpy(word, given, (size_t)words * sizeof word[0]);
-    good = take_secret(&word[0], "device key", &s.key) && take_secret(&word[2], "admin PIN", &s.admin_pin)
-        && take_secret(&word[4], "user PIN", &s.user_pin) && issue_words(word);
-    wipe(&s, sizeof s);
+    good = take_secrets(word, lines) && issue_words(word);
+    wipe(lines, sizeof lines);
     wipe(room, sizeof room);
     return good;
 }
@@ -122,7 +144,7 @@ static int new_card(int words, char **word)
         say("%s is there already, and is left as it is", word[0]);
     else
         good = (words == 2 ? run_script(word[1], true) : issue_values(words - 1, word + 1))
-            && store_card(&s, WHOLE_CARD) == STORED;
+            && store_card(&s, WHOLE_CARD, ALWAYS) == STORED;
     store_close(&s);
     return good ? EXIT_SUCCESS : EXIT_FAILURE;
 }
@@ -141,17 +163,20 @@ static bool open_card(struct store *s, const char *path, enum use use)
     return found == FOUND;
 }
 
-static int run_and_store(struct store *s, const char *script)
+/* Where a signal came the program ends by it, with nothing left to be done. */
+static void end_by_signal(void)
 {
-    enum ran ran = run_on_card(script);
-
-    if (ran == BROKEN_OFF || store_card(s, WHOLE_CARD) != STORED)
-        return EXIT_FAILURE;
-    return ran == ALL_RUN ? EXIT_SUCCESS : SOME_LINES_NOT_RUN;
+    card_wipe();
+    if (is_to_end())
+        say("ended by a signal; what was answered is stored");
+    let_ends();
 }
 
 static int run_card(int words, char **word)
 {
+    static const int statuses[] = {
+        [ALL_RUN] = EXIT_SUCCESS, [SOME_NOT_RUN] = SOME_LINES_NOT_RUN, [BROKEN_OFF] = EXIT_FAILURE
+    };
     struct store s;
     int status = EXIT_FAILURE;
 
@@ -160,19 +185,12 @@ static int run_card(int words, char **word)
     signal(SIGPIPE, SIG_IGN); /* an answer that nobody takes is an error like others */
     if (!open_card(&s, word[0], TO_CHANGE))
         return EXIT_FAILURE;
+    hold_ends();
     if (store_load(&s))
-        status = run_and_store(&s, word[1]);
+        status = statuses[run_on_card(&s, word[1])];
     store_close(&s);
+    end_by_signal();
     return status;
-}
-
-/* What was printed is there, or the status says that it is not. */
-static int printed(int status)
-{
-    if (fflush(stdout) == 0 && !ferror(stdout))
-        return status;
-    say("the output cannot be written");
-    return EXIT_FAILURE;
 }
 
 static int show_file(int words, char **word)
@@ -185,6 +203,7 @@ static int show_file(int words, char **word)
         return bad_usage("show takes a card file and nothing else");
     if (!open_card(&s, word[0], TO_LOOK))
         return EXIT_FAILURE;
+    store_warn_of_leftovers(&s);
     if (store_load(&s)) {
         if (read_form(&s.text, &f)) {
             show_card(&f);
@@ -207,6 +226,7 @@ static int check_file(int words, char **word)
         return bad_usage("check takes a card file and nothing else");
     if (!open_card(&s, word[0], TO_LOOK))
         return EXIT_FAILURE;
+    store_warn_of_leftovers(&s);
     accepted = store_has_card(&s);
     read_form(&s.text, &f);
     show_verdict(word[0], accepted, &f);
@@ -237,16 +257,17 @@ int main(int argc, char **argv)
     } parts[] = { { "new", new_card }, { "run", run_card }, { "show", show_file }, { "check", check_file } };
     int status;
 
+    process_begin();
     if (argc == 2 && asks_for_help(argv[1])) {
         fputs(usage, stdout);
-        return EXIT_SUCCESS;
+        return printed(EXIT_SUCCESS);
     }
     for (size_t i = 0; i < sizeof parts / sizeof parts[0]; i++)
         if (argc > 1 && strcmp(argv[1], parts[i].word) == 0) {
             if (!card_fits())
                 return EXIT_FAILURE;
             status = parts[i].run(argc - 2, argv + 2);
-            card_wipe();
+            process_end();
             return status;
         }
     return no_part(argc, argv);

@@ -4,13 +4,16 @@
 
 #include <stdbool.h>
 
+#include "store.h"
+
 enum ran { ALL_RUN, SOME_NOT_RUN, BROKEN_OFF };
 
 /*
- * Runs the script at path, or standard input for "-", and prints a line for each of its lines. SOME_NOT_RUN: lines were not
- * served, and changed nothing. BROKEN_OFF: the script or its answers could not be read or written to the end, or it is for another
- * card; what it did is not to be kept. Says why.
+ * Runs the script at path, or standard input for "-", on the card that was loaded, and prints a line for each of its lines. No
+ * answer is printed before the card that it left is stored. SOME_NOT_RUN: lines were not served, and changed nothing. BROKEN_OFF:
+ * the script could not be read or its answers not be stored or printed, or it is for another card, or a signal came. Says why, but
+ * of a signal.
  */
-enum ran run_on_card(const char *path);
+enum ran run_on_card(struct store *s, const char *path);
 
 #endif

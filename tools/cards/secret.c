@@ -7,88 +7,180 @@
 #include <termios.h>
 #include <unistd.h>
 
+#include "card.h"
+#include "ends.h"
 #include "say.h"
 
-enum { PAUSE = 50 }; /* ms between two looks for a signal */
+enum { PAUSE = 50 };          /* ms between two looks for a signal */
+enum { MOST_AT_ONCE = 4096 }; /* bytes that a terminal hands over: a line, or less */
 
-/* A terminal that does not show what is typed, and how it was before. */
-struct hidden {
-    struct termios shown;
+/* How terminal and signals were before. */
+struct before {
+    struct termios terminal;
     sigset_t signals;
 };
 
-static const int ends[] = { SIGINT, SIGTERM, SIGHUP, SIGQUIT };
-enum { ENDS = sizeof ends / sizeof ends[0] };
+/* These wait until the terminal shows again what is typed. All but the last end the program. */
+static const int held[] = { SIGINT, SIGTERM, SIGHUP, SIGQUIT, SIGPIPE, SIGTSTP };
+enum { HELD = sizeof held / sizeof held[0], ENDS = HELD - 1 };
 
-/* A signal that ends the program waits, so that it does not leave the terminal like this. */
-static bool hide_typing(struct hidden *h)
+/* What was typed or pasted before is not dropped. */
+static void set_silent(struct termios terminal)
 {
-    struct termios silent;
-    sigset_t held;
+    terminal.c_lflag &= ~(tcflag_t)ECHO;
+    terminal.c_lflag |= ICANON; /* line by line */
+    tcsetattr(STDIN_FILENO, TCSANOW, &terminal);
+}
 
-    if (tcgetattr(STDIN_FILENO, &h->shown) != 0)
-        return false; /* no terminal */
-    sigemptyset(&held);
-    for (size_t i = 0; i < ENDS; i++)
-        sigaddset(&held, ends[i]);
-    sigprocmask(SIG_BLOCK, &held, &h->signals);
-    silent = h->shown;
-    silent.c_lflag &= ~(tcflag_t)ECHO;
-    tcsetattr(STDIN_FILENO, TCSAFLUSH, &silent);
+/* False where there is no terminal. */
+static bool hide_typing(struct before *b)
+{
+    sigset_t signals;
+
+    if (tcgetattr(STDIN_FILENO, &b->terminal) != 0)
+        return false;
+    sigemptyset(&signals);
+    for (size_t i = 0; i < HELD; i++)
+        if (!is_ignored(held[i]))
+            sigaddset(&signals, held[i]);
+    sigprocmask(SIG_BLOCK, &signals, &b->signals);
+    set_silent(b->terminal);
     return true;
 }
 
-static bool is_to_end(void)
+/* The shell sets the terminal as it needs it where the program is stopped all the same, as by SIGSTOP. */
+static void stay_hidden(void)
+{
+    struct termios now;
+
+    if (tcgetattr(STDIN_FILENO, &now) == 0 && (now.c_lflag & ECHO) != 0)
+        set_silent(now);
+}
+
+static void show_typing(const struct before *b)
+{
+    tcsetattr(STDIN_FILENO, TCSANOW, &b->terminal);
+    sigprocmask(SIG_SETMASK, &b->signals, NULL);
+}
+
+static bool is_ended(void)
 {
     sigset_t waiting;
 
     sigpending(&waiting);
     for (size_t i = 0; i < ENDS; i++)
-        if (sigismember(&waiting, ends[i]))
+        if (sigismember(&waiting, held[i]))
             return true;
     return false;
 }
 
-/* Until a line is typed or a signal waits. */
-static void wait_for_line(void)
+static bool is_typed(int ms)
 {
     struct pollfd input = { .fd = STDIN_FILENO, .events = POLLIN };
 
-    while (!is_to_end() && poll(&input, 1, PAUSE) == 0)
-        ;
+    return poll(&input, 1, ms) > 0;
 }
 
-static void show_typing(const struct hidden *h)
+/* Until something is typed; false where the program is to end first. */
+static bool wait_for_typing(void)
 {
-    fputc('\n', stderr);
-    tcsetattr(STDIN_FILENO, TCSAFLUSH, &h->shown);
-    sigprocmask(SIG_SETMASK, &h->signals, NULL);
+    while (!is_ended()) {
+        if (is_typed(PAUSE))
+            return true;
+        stay_hidden();
+    }
+    return false;
 }
 
-static bool read_typed(const char *name, struct text *t, const struct hidden *h)
+/* Whether the line has come to its end. */
+static bool take(const uint8_t *piece, size_t len, struct text *t)
+{
+    for (size_t i = 0; i < len; i++) {
+        if (piece[i] == '\n')
+            return true;
+        if (t->len <= LONGEST_LINE)
+            t->at[t->len++] = piece[i];
+    }
+    return false;
+}
+
+/* Half a line that Ctrl-D sends is not the end of it; at a second Ctrl-D it is. */
+static bool read_typed(struct text *t)
+{
+    uint8_t piece[MOST_AT_ONCE];
+    ssize_t got = 1;
+    bool whole = false;
+
+    t->len = 0;
+    while (!whole && got > 0 && wait_for_typing()) {
+        got = read(STDIN_FILENO, piece, sizeof piece);
+        whole = got > 0 && take(piece, (size_t)got, t);
+    }
+    wipe(piece, sizeof piece);
+    return whole || (t->len > 0 && !is_ended());
+}
+
+static bool ask(const char *name, const char *again, struct text *t)
 {
     bool there;
 
-    fprintf(stderr, "%s: ", name);
-    wait_for_line();
-    there = !is_to_end() && read_text(stdin, t);
-    show_typing(h);
+    fprintf(stderr, "%s%s: ", name, again);
+    there = read_typed(t);
+    fputc('\n', stderr);
     return there;
 }
 
-bool read_secret(const char *name, struct text *t)
+/* Where a secret is not taken. What was pasted behind it may be one too, and the shell would run it as a command, and show it. */
+static void drop_the_rest(void)
 {
-    struct hidden h;
-    bool there = hide_typing(&h) ? read_typed(name, t, &h) : read_text(stdin, t);
+    if (is_typed(0))
+        say("what was typed behind it is dropped");
+    tcflush(STDIN_FILENO, TCIFLUSH);
+}
 
-    if (!there) {
-        say("standard input has no line for the %s", name);
-        return false;
-    }
-    if (t->len > LONGEST_LINE || memchr(t->at, '\0', t->len) != NULL) {
-        say("the %s is too long, or has a byte 00", name);
-        return false;
-    }
-    t->at[t->len] = '\0';
-    return true;
+static bool ask_twice(const char *name, struct text *t)
+{
+    struct text second;
+    bool there, same;
+
+    do {
+        there = ask(name, "", t) && ask(name, " again", &second);
+        same = there && t->len == second.len && memcmp(t->at, second.at, t->len) == 0;
+        if (there && !same) {
+            say("the two differ: type the %s once more", name);
+            drop_the_rest();
+        }
+    } while (there && !same);
+    wipe(&second, sizeof second);
+    return there;
+}
+
+static bool is_good(const struct secret *s)
+{
+    bool good = s->to->len <= LONGEST_LINE && memchr(s->to->at, '\0', s->to->len) == NULL;
+
+    if (good)
+        s->to->at[s->to->len] = '\0';
+    else
+        say("the %s is too long, or has a byte 00", s->name);
+    return good;
+}
+
+bool read_secrets(const struct secret *wanted, size_t count)
+{
+    struct before b;
+    bool typed = count > 0 && hide_typing(&b), there = true;
+    size_t have = 0;
+
+    while (have < count
+           && (there = typed ? ask_twice(wanted[have].name, wanted[have].to) : read_text(stdin, wanted[have].to))
+           && is_good(&wanted[have]))
+        have++;
+    if (typed && have < count)
+        drop_the_rest();
+    if (typed)
+        show_typing(&b); /* a signal that has waited ends the program here */
+    if (!there)
+        say("standard input has no line for the %s", wanted[have].name);
+    return have == count;
 }

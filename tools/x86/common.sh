@@ -5,6 +5,8 @@ built=target/c
 reader=target/reader/limpet-reader
 card_program=target/reader/limpet-card
 strict=(-Wall -Wextra -pedantic -Werror -Iinclude)
+# For programs that hold keys and PINs: an overrun buffer ends them, and nothing that they call through can be written.
+hardened=(-O2 -fstack-protector-strong -U_FORTIFY_SOURCE -D_FORTIFY_SOURCE=2 "-Wl,-z,relro,-z,now")
 
 # The programs and libraries here are for x86-64: the compilers for it, and the Debian packages with them and with what watches
 # such a program at work. x86 PROGRAM ARGUMENT... runs one. On another processor it is emulated, and nothing can watch it.
@@ -55,6 +57,19 @@ need() {
     fi
 }
 
+# alone COMMAND...: becomes that command, in a network of its own, which has loopback alone, and with a /run/pcscd of its own: pcscd, its
+# socket and vpcd's port are one to a machine. Only root may, and not everywhere. is_alone says whether it has become so.
+alone() {
+    # What brings loopback up: SIOCSIFFLAGS with IFF_UP.
+    local up='import fcntl, socket, struct; fcntl.ioctl(socket.socket(), 0x8914, struct.pack("16sh22x", b"lo", 1))'
+    exec unshare --mount --net bash -euc '
+        python3 -c "$0"
+        mkdir -p /run/pcscd
+        mount -t tmpfs tmpfs /run/pcscd
+        ALONE_IN=$(readlink /proc/self/ns/net) exec "$@"' "$up" "$@"
+}
+is_alone() { [ "${ALONE_IN-}" = "$(readlink /proc/self/ns/net)" ]; }
+
 # cited_by CRATE: has `crates` be those of this repository that the crate cites, and then the crate.
 cited_by() {
     local name cited crate
@@ -74,42 +89,87 @@ is_old() {
     [ ! -e "$1" ] || [ -n "$(find crates.txt "${crates[@]/#/crates/}" -type f ! -path '*/must-fail/*' -newer "$1" -print -quit)" ]
 }
 
+# may_build WHO: whether the user can write target/; where not, WHO says that something is to be built there.
+may_build() {
+    if ! mkdir -p target/log target/reader 2>/dev/null || [ ! -w target ] || [ ! -w target/log ] || [ ! -w target/reader ]; then
+        echo "$1: it is not built, and $(id -un) cannot write $PWD/target to build it; somebody who can is to run it once" >&2
+        return 1
+    fi
+}
+
 # logged WHO CRATE LOG COMMAND...: runs a command that has rt prove CRATE, and no second one beside it, since rt keeps none away.
 # What it prints goes to LOG. WHO tells of each crate as it is begun and proved and, where the command fails, the errors in LOG.
 # The exit status is the command's.
 logged() {
-    local who=$1 log=$3 crate crates status=1
+    local who=$1 log=$3 crates status=0
     cited_by "$2"
     shift 3
     mkdir -p target/log "${log%/*}" || return
     {
         flock -n 9 || { echo "$who: waiting for another build to end" >&2 && flock 9; }
         touch target/build.lock
-        "$@" 2>&1 </dev/null | tee "$log" | {
-            local ended=no count=0 logs printed now
-            local -A last=()
-            while [ $ended = no ]; do
-                read -r -t 1 -N 1000000 || (($? > 128)) || ended=yes # a second has passed, or the command has ended
-                # rt prints nothing of a crate before those beside it are proved too; target/log has it at once.
-                mapfile -t logs < <(find target/log -name '*.out' -newer target/build.lock)
-                printed=$(grep -ah '^rt: ' "$log" "${logs[@]}") # read once, so that no crate is told of before one proved earlier
-                for crate in "${crates[@]}"; do
-                    now=$(sed -n "s/^rt: \($crate proved (.*\)/\1/p
-                        s|^rt: target/staticlib/lib$crate\.a has .*|$crate proved|p" <<<"$printed" | head -n 1)
-                    [ -n "$now" ] || [ ! "target/log/$crate.say" -nt target/build.lock ] || now="proving $crate"
-                    [ "$now" != "${last[$crate]-}" ] || continue
-                    last[$crate]=$now
-                    [[ $now == proving* ]] || count=$((count + 1))
-                    echo "$who: $now, $count of ${#crates[@]} done"
-                done
-            done
-        } >&2
-        status=${PIPESTATUS[0]}
+        (watched "$@") || status=$?
     } 9>>target/build.lock
     if ((status != 0)); then
         { grep -aEm 8 '(^|: )(fatal )?error\b|^E: ' "$log" || tail -n 10 "$log"; } | cut -c 1-500 >&2
     fi
     return "$status"
+}
+
+# watched COMMAND...: for logged, in a shell of its own. The command is a process group of its own, and has not the lock, which it might
+# leave to what it starts. Where this shell is ended, or the one that waits for it, it ends that group, and has the lock until then.
+watched() {
+    local build ended parent count=0
+    local -A last=()
+    set -m # that is what makes a process group
+    "$@" >"$log" 2>&1 </dev/null 9>&- &
+    build=$!
+    set +m
+    trap 'kill -- "-$build"; wait "$build"' EXIT
+    exec {ended}< <(exec tail --pid="$build" -s 0.2 -f /dev/null 9>&-)
+    while read -r -t 1 -u "$ended" || (($? > 128)); do # a second has passed
+        read -r _ _ _ parent _ </proc/self/stat
+        ((parent == $$)) || exit 1
+        tell_crates
+    done
+    trap - EXIT
+    tell_crates
+    wait "$build"
+} >&2
+
+# tell_crates: for watched, tells of crates that were begun or proved since it was asked last.
+tell_crates() {
+    local crate logs printed now
+    # rt prints nothing of a crate before those beside it are proved too; target/log has it at once.
+    mapfile -t logs < <(find target/log -name '*.out' -newer target/build.lock)
+    printed=$(grep -ah '^rt: ' "$log" "${logs[@]}") # read once, so that no crate is told of before one proved earlier
+    for crate in "${crates[@]}"; do
+        now=$(sed -n "s/^rt: \($crate proved (.*\)/\1/p
+            s|^rt: target/staticlib/lib$crate\.a has .*|$crate proved|p" <<<"$printed" | head -n 1)
+        [ -n "$now" ] || [ ! "target/log/$crate.say" -nt target/build.lock ] || now="proving $crate"
+        [ "$now" != "${last[$crate]-}" ] || continue
+        last[$crate]=$now
+        [[ $now == proving* ]] || count=$((count + 1))
+        echo "$who: $now, $count of ${#crates[@]} done"
+    done
+}
+
+# What the fronts say of a first build: seen on two cores of x86-64 and of Arm.
+how_long="likely to take 5 to 10 minutes on two cores, once"
+
+# built_before WHO LOG COMMAND...: for a front whose program is old: the command builds it, and what it needs of the library. Where that
+# fails it is the end of the front.
+built_before() {
+    local who=$1 log=$PWD/$2
+    shift 2
+    may_build "$who" || exit 1
+    if library_is_old; then
+        echo "$who: proving and building the library; $how_long ($log)" >&2
+    fi
+    if ! logged "$who" limpetnook "$log" "$@"; then
+        echo "$who: not built; $log has all that was said" >&2
+        exit 1
+    fi
 }
 
 library_is_old() { is_old $library limpetnook; }
@@ -134,17 +194,61 @@ take() {
     x86_64-linux-gnu-ld -r --gc-sections -u "$1" -e "$1" $library -o "$2" && x86_64-linux-gnu-strip --strip-unneeded "$2"
 }
 
-# usage_of SOURCE: the `usage` of a program in C, for which nothing has to be built.
-usage_of() {
-    sed -n '/^static const char usage\[\] =$/,/;$/s/^    "\(.*\)\\n";\{0,1\}$/\1/p' "$1"
+# called SCRIPT MOST WORD...: so begins a script of .ci, tests or bench that takes MOST words. -h or --help prints the comment at its
+# head, and nothing is started. An option, or a word too many, is refused; a script that has options takes them before.
+called() {
+    local script=$1 most=$2
+    shift 2
+    case ${1-} in
+    -h | --help)
+        head_of "$script"
+        exit 0
+        ;;
+    -?*) refuse "$script" "there is no option $1" ;;
+    esac
+    if (($# > most)); then
+        refuse "$script" "there is no use for ${*:most + 1}"
+    fi
 }
 
-# The program of reader/, over $library.
+# numbers SCRIPT WORD...: refuses the words of a script that are no numbers.
+numbers() {
+    local script=$1 word
+    shift
+    for word; do
+        [[ $word =~ ^[0-9]{1,18}$ ]] || refuse "$script" "${word:-an empty word} is not a number of up to 18 digits"
+    done
+}
+
+# head_of SCRIPT: the comment at its head, without the hashes.
+head_of() {
+    sed -n '2,/^[^#]/s/^# \{0,1\}//p' "${BASH_SOURCE[0]%/*}/../../$1"
+}
+
+# refuse SCRIPT REASON: ends a script that cannot be called so, and says how it can.
+refuse() {
+    printf '%s: %s\n%s\n%s --help explains it\n' "$1" "$2" "$(head_of "$1" | sed '/^$/,$d')" "$1" >&2
+    exit 2
+}
+
+# usage_of SOURCE: the `usage` of a program in C, for which nothing has to be built.
+usage_of() {
+    sed -n '/^static const char usage\[\] =$/,/;$/s/^    "\(.*\)\\n";\{0,1\}$/\1/p' "$1" | cat # which fails where nothing can be written
+}
+
+# reader_is_old: whether there is no program of reader/, or one older than its code.
+reader_is_old() {
+    [ ! -e $reader ] || [ -n "$(find reader include $library -type f -newer $reader -print -quit)" ]
+}
+
+# build_reader [PROGRAM FLAG...]: the program of reader/, over $library, where it is old. With a name it is built under that one,
+# with these flags and files more.
 build_reader() {
-    if [ ! -e $reader ] || [ -n "$(find reader include $library -type f -newer $reader -print -quit)" ]; then
+    local program=${1:-$reader}
+    if (($# > 0)) || reader_is_old; then
         need "${for_c[@]}" || return
-        mkdir -p "$(dirname $reader)"
-        $cc -std=c11 -O2 "${strict[@]}" reader/*.c $library -o $reader
+        mkdir -p "$(dirname "$program")"
+        $cc -std=c11 "${hardened[@]}" "${strict[@]}" "${@:2}" reader/*.c $library -o "$program"
     fi
 }
 
@@ -153,14 +257,14 @@ card_is_old() {
     [ ! -e $card_program ] || [ -n "$(find tools/cards reader include $library -type f -newer $card_program -print -quit)" ]
 }
 
-# build_card [PROGRAM FLAG...]: the program of tools/card, over $library, where it is old. With a name it is built under that one,
-# with these flags and files more.
+# build_card [PROGRAM FLAG...]: the program of tools/card, as build_reader does.
 build_card() {
     local program=${1:-$card_program}
     if (($# > 0)) || card_is_old; then
         need "${for_c[@]}" || return
         mkdir -p "$(dirname "$program")"
-        $cc -std=c11 -O2 "${strict[@]}" -Ireader "${@:2}" tools/cards/*.c reader/{card,lines,say,script,store}.c $library -o "$program"
+        $cc -std=c11 "${hardened[@]}" "${strict[@]}" -Ireader "${@:2}" tools/cards/*.c reader/{card,lines,process,say,script,store}.c \
+            $library -o "$program"
     fi
 }
 

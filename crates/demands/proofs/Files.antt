@@ -35,8 +35,8 @@ use Rattle.rules.specs.Pins.{comparedAt, compared}
 use Rattle.rules.specs.List.{Role, role}
 use Rattle.rules.specs.Step.{did, touched, outcome}
 use Rattle.rules.proofs.Good.{Good, sound-good}
-use Rattle.demands.specs.Files.{writesTo, readsFrom}
 use Rattle.demands.proofs.Rows.{Entitled, FairShow, FairStore, Fair, by-rule}
+use Rattle.demands.proofs.Addressed.{writesTo, readsFrom}
 
 -- the command addresses the file of this place, and the right is held
 abbrev pub By : Card → ℕ → ℕ → (File → ℕ) → Type 0

@@ -1,124 +1,78 @@
 -- Files over any list of calls after a served issue, with the rights of the ledger.
-use Prim.Native.Nat.{ℕ, _+_, _/_, _%_, _≤_}
-use mathlib.Core.Bool.{Bool, true, false, cond, _||_, not}
-use mathlib.Core.List.{List, [], _∷_, _++_}
-use mathlib.Core.Logic.{_⊎_, inl, inr, ⊎-elim, by-cases}
-use mathlib.Core.Path.{_≡_, refl, sym, ap, ap₂, _∙_}
-use native.Mathlib.Decide.{decLt}
-use native.Mathlib.Omega.{arith}
+use Prim.Native.Nat.{ℕ, _+_, _≤_}
+use mathlib.Core.Bool.{Bool, true, false, cond}
+use mathlib.Core.List.{List, _++_}
+use mathlib.Core.Logic.{_⊎_, inl, inr, ⊎-elim}
+use mathlib.Core.Path.{_≡_, refl, sym, ap, ap₂, _∙_, subst}
 use lib.ListN.{length}
 use lib.Dec.{eqb, leb}
-use borrow.Author.Tests.{eqb-true, eqb-false, eq-eqb, ne-eqb, not-true}
+use borrow.Author.Tests.{eq-eqb}
 use Rattle.files.specs.declared.File.{File}
 use Rattle.files.specs.declared.Directory.{Directory}
 use Rattle.files.specs.State.{emptied}
-use Rattle.files.specs.Part.{part, over, zeros, splice}
+use Rattle.files.specs.Part.{over, zeros, splice}
 use Rattle.files.specs.Types.{size}
-use Rattle.files.specs.Rights.{never, adminBit, userBit, deviceBit, anyBit, asks, allHeld, grants, anyHeld, allowed}
-use Rattle.files.specs.Directory.{used, start, extent, isPlace, inArea}
-use Rattle.files.specs.Record.{bytesUsed}
-use Rattle.files.specs.Words.{isZero, two}
+use Rattle.files.specs.Directory.{start, extent, isPlace, inArea}
+use Rattle.files.specs.Words.{two}
 use Rattle.files.specs.Create.{areaSize, created, creates}
-use Rattle.files.proofs.Checks.{clash, each, both, split}
+use Rattle.files.proofs.Checks.{split}
 use Rattle.files.proofs.Parts.{part-apart}
-use Rattle.files.proofs.Extents.{place-is, lies}
+use Rattle.files.proofs.Extents.{lies}
 use Rattle.files.proofs.Kept.{filed, lies-in-area}
 use Rattle.files.proofs.Stays.{new-file, new-zero}
 use Rattle.rules.specs.declared.Card.{Card}
 use Rattle.rules.specs.declared.Ins.{Ins}
 use Rattle.rules.specs.declared.Ins.the-variants.{CreateFile}
-use Rattle.rules.specs.Words.{first, same, swBytes}
-use Rattle.rules.specs.State.{Which, device, admin, user, marked, Login, login, mode, waiting, withWaiting}
-use Rattle.rules.specs.Frame.{Command, framed, frameSw, classSw}
+use Rattle.rules.specs.Words.{same, swBytes}
+use Rattle.rules.specs.State.{Which, device, marked, Login, login, mode, waiting, withWaiting}
+use Rattle.rules.specs.Frame.{Command, framed}
 use Rattle.rules.specs.Effect.{Deed, turns, shows, stores, appends, makes, Touch, nothing, presents, changes, reloads, challenges, Effect}
 use Rattle.rules.specs.Binary.{fileOf, opens}
 use Rattle.rules.specs.Record.{recordFound}
-use Rattle.rules.specs.Create.{fileGiven, createChecks}
-use Rattle.rules.specs.List.{listed, isGetResponse, Role, role, rule}
+use Rattle.rules.specs.List.{listed, Role, role}
 use Rattle.rules.specs.Response.{waitSw, fetchCount, fetches}
-use Rattle.rules.specs.Step.{did, touched, checks, effectOf, ruled, outcome, Stepped, settled, atOnce, waits, delivered, gives, unchanged, fetchSw, fetched, step}
+use Rattle.rules.specs.Step.{did, touched, outcome, Stepped, settled, atOnce, waits, delivered, gives, unchanged, fetchSw, fetched, step}
 use Rattle.rules.specs.Calls.{replySize, randomSize, answer, refused, served, command}
-use Rattle.rules.proofs.Checks.{one-of}
 use Rattle.rules.proofs.Good.{sound-good, sound-parted}
-use Rattle.rules.proofs.Targets.{used-count, place-named}
-use Rattle.demands.specs.Ledger.{Event, sent, resets, isHeld, Label, labelGiven, sizeOf, makeChecks, labelIn, Ledger, page, createSw, servable, ledger}
+use Rattle.rules.proofs.Targets.{place-named}
+use Rattle.demands.specs.Ledger.{Event, sent, resets, isHeld, Label, labelGiven, sizeOf, labelIn, Ledger, page, servable, ledger, heldIn}
 use Rattle.demands.specs.Run.{World, world, called, after}
-use Rattle.demands.specs.Files.{writesTo, readsFrom, labelOf, Labelled, FilesFollow, CreateAnswers, bitOf, OneHeld, Opens, Written, Read, Writes, Stays, Altered, AlikeBut, SameBut, Shown, Made, Makes, Created}
-use Rattle.demands.proofs.Labels.{label-size, each-at, create-same}
+use Rattle.demands.specs.Files.{Labelled, FilesFollow, Written, Read, Writes, Stays, Altered, AlikeBut, SameBut, Shown, Made, Makes, Created}
+use Rattle.demands.specs.Held.{labelOf, Opens, IsFile, labelNo}
+use Rattle.demands.specs.Framing.{NamedBy}
+use Rattle.demands.proofs.Labels.{label-size, each-at}
 use Rattle.demands.proofs.Rows.{Fair, by-rule}
 use Rattle.demands.proofs.Delivered.{fetched-by, step-by}
-use Rattle.demands.proofs.Soundness.{leaves, at-once-good}
+use Rattle.demands.proofs.Soundness.{leaves}
 use Rattle.demands.proofs.Live.{Live, after-live, command-served, command-is, reset-is}
 use Rattle.demands.proofs.Follows.{Agree, follows}
 use Rattle.demands.proofs.Files.{By, Kept, Treats, compare-by, treats, treated-lengths}
-use Rattle.demands.proofs.Alike.{alike-splice, alike-part}
+use Rattle.demands.proofs.Alike.{alike-splice, alike-part, AlikeIn, alike-in, alike-but}
 use Rattle.demands.proofs.Others.{found-same, sound-same}
-
--- a set bit's right is held
-asked-one : (bit : ℕ) (held : Bool) → asks bit held ≡ true → bit ≡ 1 → held ≡ true
-asked-one bit held h e = one-of (isZero bit) held h (λ z. absurd (omega (arith, e, eqb-true bit 0 z))) (λ z. z)
-
--- a bit that grants is set, and its right is held
-granted-one : (n : ℕ) (held : Bool) → grants (n % 2) held ≡ true → (n % 2 ≡ 1) × (held ≡ true)
-granted-one n held h =
-    let e = both (not (isZero (n % 2))) held h in
-    let z : n % 2 ≡ 0 → ⊥ = eqb-false (n % 2) 0 (not-true (isZero (n % 2)) (e .0)) in
-    (by-cases (decLt (n % 2) 1) (λ k. absurd (z (omega arith))) (λ k. omega arith), e .1)
+use Rattle.demands.proofs.Addressed.{writesTo, readsFrom, writes-to, reads-from}
+use Rattle.demands.proofs.Named.{opens-by, opens-asked}
+use Rattle.demands.proofs.View.{bytes-are}
+use Rattle.demands.proofs.Framing.{listed-by-bytes}
 
 -- what the card opens the ledger opens
 module _ (c : Card) (l : Ledger) (agree : Agree c l) where
   held-told : (w : Which) → login w c .held ≡ true → isHeld (page w l .history) ≡ true
   held-told w h = sym (ap (λ (x : Login). x .held) (agree .logins-are w)) ∙ h
 
-  -- all that the byte asks
-  all-told : (right : ℕ) → allHeld (login device c .held) (login admin c .held) (login user c .held) right ≡ true → (w : Which) → bitOf w right ≡ 1 → isHeld (page w l .history) ≡ true
-  unfolding allHeld
-  all-told right h = go (each (asks (adminBit right) (login admin c .held) ∷ asks (userBit right) (login user c .held) ∷ asks (deviceBit right) (login device c .held) ∷ []) h)
-    where
-      go : (asks (adminBit right) (login admin c .held) ≡ true) × ((asks (userBit right) (login user c .held) ≡ true) × (asks (deviceBit right) (login device c .held) ≡ true))
-          → (w : Which) → bitOf w right ≡ 1 → isHeld (page w l .history) ≡ true
-      go e device q = held-told device (asked-one _ _ (e .1 .1) q)
-      go e admin q = held-told admin (asked-one _ _ (e .0) q)
-      go e user q = held-told user (asked-one _ _ (e .1 .0) q)
-
-  -- or one of them
-  one-told : (right : ℕ) → anyHeld (login device c .held) (login admin c .held) (login user c .held) right ≡ true → OneHeld l right
-  unfolding anyHeld
-  one-told right h =
-      one-of (grants (adminBit right) (login admin c .held)) (grants (userBit right) (login user c .held) || grants (deviceBit right) (login device c .held)) h
-      (λ z. let k = granted-one (right / 128) (login admin c .held) z in record { which = admin; asked = k .0; held = held-told admin (k .1) })
-      (λ y. one-of (grants (userBit right) (login user c .held)) (grants (deviceBit right) (login device c .held)) y
-      (λ z. let k = granted-one (right / 64) (login user c .held) z in record { which = user; asked = k .0; held = held-told user (k .1) })
-      (λ z. let k = granted-one right (login device c .held) z in record { which = device; asked = k .0; held = held-told device (k .1) }))
-
-  opens-told : (right : ℕ) → opens c right ≡ true → Opens l right
-  unfolding allowed
-  opens-told right h =
-      let all = allHeld (login device c .held) (login admin c .held) (login user c .held) right in
-      let any = anyHeld (login device c .held) (login admin c .held) (login user c .held) right in
-      let e = each (not (eqb right never) ∷ cond (isZero (anyBit right)) all any ∷ []) h in
-      record {
-        all = λ q. all-told right (rw (eq-eqb (anyBit right) 0 q) at (e .1));
-        any = λ q. one-told right (rw (ne-eqb (anyBit right) 0 (λ z. omega (arith, q, z))) at (e .1));
-        not-never = λ q. eqb-false right never (not-true (eqb right never) (e .0)) q;
-      }
+  opens-told : (right : ℕ) → opens c right ≡ true → Opens (heldIn l) right
+  opens-told right h = opens-by right (λ w e. held-told w (eq-eqb _ _ e)) (opens-asked c right h)
 
 -- the files of the card are those of the ledger
 module _ (c : Card) (area : List ℕ) (live : Live (world c area)) (l : Ledger) (agree : Agree c l) where
-  used-made : used (c .directory) ≡ length (l .labels)
-  used-made = used-count (c .directory) (sound-good c area (live .sound-card) .directory) ∙ agree .labels-are .count-is
-
   pub labels-told : Labelled c l
   labels-told = record {
     count-is = agree .labels-are .count-is;
-    label-is = λ place here.
-        let e = place-is (c .directory) place here in
-        each-at (c .directory .files) (l .labels) place (e .0) (rw (← used-made) (e .1)) (agree .labels-are .each-is);
+    label-is = λ n here. each-at (c .directory .files) (l .labels) n (here .first) (rw (← agree .labels-are .count-is) (here .last)) (agree .labels-are .each-is);
   }
 
   -- a right of a file is that of its label
-  pub right-told : (place : ℕ) → isPlace (c .directory) place ≡ true → (right : Label → ℕ) → opens c (right (labelOf (fileOf c place))) ≡ true
-      → Opens l (right (labelIn (l .labels) place))
+  pub right-told : (place : ℕ) → IsFile c place → (right : Label → ℕ) → opens c (right (labelNo c place)) ≡ true
+      → Opens (heldIn l) (right (labelIn (l .labels) place))
   right-told place here right h = rw (← labels-told .label-is place here) (opens-told c l agree _ h)
 
 -- two steps that are the same but for a file's bytes
@@ -126,7 +80,7 @@ pub record SameStep (place : ℕ) (a b : Stepped) : Type 0 where
   pub card-is : a .card ≡ b .card
   pub bytes-are : a .bytes ≡ b .bytes
   pub sw-is : a .sw ≡ b .sw
-  pub areas : AlikeBut (a .card) place (a .area) (b .area)
+  pub areas : AlikeIn (a .card) place (a .area) (b .area)
 
 both-wait : (place : ℕ) (a b : Stepped) → SameStep place a b → SameStep place (waits a) (waits b)
 both-wait place a b k = record {
@@ -140,11 +94,11 @@ both-served : (place : ℕ) (a b : Stepped) (reply : List ℕ) → SameStep plac
 both-served place a b reply k = record {
   answer-is = ap₂ (λ (x : Card) (d : List ℕ). answer 0 x (length d + 2)) (k .card-is) (k .bytes-are);
   reply-is = ap₂ (λ (d : List ℕ) (sw : ℕ). over (d ++ swBytes sw) reply) (k .bytes-are) (k .sw-is);
-  areas = k .areas;
+  areas = alike-but (a .card) place (a .area) (b .area) (k .areas);
 }
 
 -- one served command
-module _ (c : Card) (area cmd random : List ℕ) (live : Live (world c area)) (place : ℕ) (here : isPlace (c .directory) place ≡ true) where
+module _ (c : Card) (area cmd random : List ℕ) (live : Live (world c area)) (place : ℕ) (file-here : IsFile c place) where
   abbrev r : Role
   r = role (listed (framed cmd))
 
@@ -152,46 +106,46 @@ module _ (c : Card) (area cmd random : List ℕ) (live : Live (world c area)) (p
   e = outcome (listed (framed cmd)) c (recordFound c area (framed cmd)) (framed cmd) random
 
   some : 1 ≤ place
-  some = place-is (c .directory) place here .0
+  some = file-here .first
 
-  low : place ≤ c .directory .count
-  low = rw (← used-count (c .directory) (sound-good c area (live .sound-card) .directory)) (place-is (c .directory) place here .1)
+  here : isPlace (c .directory) place ≡ true
+  here = place-named (c .directory) (sound-good c area (live .sound-card) .directory) place (file-here .first) (file-here .last)
 
   treated : Treats c area place r (framed cmd) (outcome (listed (framed cmd)) c (recordFound c area (framed cmd)) (framed cmd) random)
-  treated = treats c area (live .sound-card) place some low (framed cmd) (listed (framed cmd)) random
+  treated = treats c area (live .sound-card) place some (file-here .last) (framed cmd) (listed (framed cmd)) random
 
   fits : (bytes : List ℕ) → length bytes ≡ areaSize → e .into + length (e .stores) ≤ length bytes
   fits bytes q = rw q (leaves c area (live .sound-card) (framed cmd) random (listed (framed cmd)) .stored)
 
-  at-once-alters : length random ≡ randomSize
-      → Stays (world c area) (world (atOnce c area cmd random .card) (atOnce c area cmd random .area)) place ⊎ By c place (writesTo r c (framed cmd)) (λ f. f .write)
+  at-once-alters : Stays (world c area) (world (atOnce c area cmd random .card) (atOnce c area cmd random .area)) place ⊎ By c place (writesTo r c (framed cmd)) (λ f. f .write)
   unfolding atOnce settled extent
-  at-once-alters l =
+  at-once-alters =
       ⊎-elim
       (λ (k : Kept c place e). inl (record {
-        there = place-named _ (at-once-good c area cmd random (live .sound-card) l .directory) place some (treated .there);
+        there = record { first = some; last = treated .there };
         file-is = k .file-is;
         bytes-are =
-            rw (treated .start-is, k .file-is)
-            (part-apart area (e .into) (e .stores) (start (c .directory) place) (size (fileOf c place)) (fits area (live .size-is)) (k .apart));
+            bytes-are (atOnce c area cmd random .card) (atOnce c area cmd random .area) place
+            ∙ rw (treated .start-is, k .file-is)
+            (part-apart area (e .into) (e .stores) (start (c .directory) place) (size (fileOf c place)) (fits area (live .size-is)) (k .apart))
+            ∙ sym (bytes-are c area place);
       }))
       (λ q. inr (q .0)) (treated .kept)
 
   -- what waits is nothing to the files, and GET RESPONSE leaves them
-  pub step-alters : length random ≡ randomSize
-      → Stays (world c area) (world (step c area cmd random .card) (step c area cmd random .area)) place ⊎ By c place (writesTo r c (framed cmd)) (λ f. f .write)
-  step-alters l =
+  pub step-alters : Stays (world c area) (world (step c area cmd random .card) (step c area cmd random .area)) place ⊎ By c place (writesTo r c (framed cmd)) (λ f. f .write)
+  step-alters =
       step-by Left c area cmd random
-      (λ f. fetched-by Left c area (framed cmd) (λ q. inl (record { there = here; file-is = refl; bytes-are = refl }))
-      (λ sw. inl (record { there = here; file-is = refl; bytes-are = refl })))
-      (λ m f. ⊎-elim (λ k. inl (record { there = k .there; file-is = k .file-is; bytes-are = k .bytes-are })) inr (at-once-alters l))
-      (λ m f. at-once-alters l)
+      (λ f. fetched-by Left c area (framed cmd) (λ q. inl (record { there = record { first = file-here .first; last = file-here .last }; file-is = refl; bytes-are = refl }))
+      (λ sw. inl (record { there = record { first = file-here .first; last = file-here .last }; file-is = refl; bytes-are = refl })))
+      (λ m f. ⊎-elim (λ k. inl (record { there = record { first = k .there .first; last = k .there .last }; file-is = k .file-is; bytes-are = k .bytes-are })) inr at-once-alters)
+      (λ m f. at-once-alters)
     where
       Left : Stepped → Type 0
       Left s = Stays (world c area) (world (s .card) (s .area)) place ⊎ By c place (writesTo r c (framed cmd)) (λ f. f .write)
 
   -- on an area that differs in the file's bytes alone
-  module _ (other : List ℕ) (alike : AlikeBut c place area other) where
+  module _ (other : List ℕ) (alike : AlikeIn c place area other) where
     here-in : inArea (c .directory) place (length area) ≡ true
     here-in = lies-in-area (c .directory) area (sound-parted c area (live .sound-card)) place here
 
@@ -233,75 +187,45 @@ module _ (c : Card) (area cmd random : List ℕ) (live : Live (world c area)) (p
 
 module _ (c : Card) (area : List ℕ) (live : Live (world c area)) (l : Ledger) (agree : Agree c l) where
   -- the next call, and a file
-  call-alters : (e : Event) (place : ℕ) → isPlace (c .directory) place ≡ true
-      → Stays (world c area) (called (world c area) e) place ⊎ Writes c l e place
-  call-alters (sent cmd random reply) place here =
+  call-alters : (e : Event) (n : ℕ) → IsFile c n → Stays (world c area) (called (world c area) e) n ⊎ Writes c l e n
+  call-alters (sent cmd random reply) n file-here =
       rw (command-is c area live cmd random reply)
-      (split (λ v. Stays (world c area) v place ⊎ Written c l cmd place) (servable random reply)
-      (λ q. ⊎-elim inl (λ b. inr (record { addressed = b .0; by-right = right-told c area live l agree place here (λ x. x .write) (b .1) }))
-      (step-alters c area cmd random live place here (eqb-true _ _ (both (leb replySize (length reply)) (eqb (length random) randomSize) q .1))))
-      (λ q. inl (record { there = here; file-is = refl; bytes-are = refl })))
-  call-alters resets place here =
-      inl (rw (reset-is c area live) (record { there = here; file-is = refl; bytes-are = refl }))
+      (split (λ v. Stays (world c area) v n ⊎ Written c l cmd n) (servable random reply)
+      (λ q. ⊎-elim inl (λ b. inr (record {
+        addressed = writes-to c (sound-good c area (live .sound-card)) (framed cmd) n (file-here .first) (b .0);
+        by-right = right-told c area live l agree n file-here (λ x. x .write) (b .1);
+      })) (step-alters c area cmd random live n file-here))
+      (λ q. inl (record { there = record { first = file-here .first; last = file-here .last }; file-is = refl; bytes-are = refl })))
+  call-alters resets n file-here =
+      inl (rw (reset-is c area live) (record { there = record { first = file-here .first; last = file-here .last }; file-is = refl; bytes-are = refl }))
 
   -- the next command, on an area that differs in the file's bytes alone
-  call-shows : (cmd random reply other : List ℕ) (place : ℕ) → isPlace (c .directory) place ≡ true → AlikeBut c place area other
-      → SameBut place (command c area cmd random reply) (command c other cmd random reply) ⊎ Read c l cmd place
-  call-shows cmd random reply other place here alike =
-      let there : Live (world c other) = record { sound-card = sound-same c area other place (live .sound-card) here alike; size-is = sym (alike .but-bytes .length-is) ∙ live .size-is } in
+  call-shows : (cmd random reply other : List ℕ) (n : ℕ) → IsFile c n → AlikeBut c n area other
+      → SameBut n (command c area cmd random reply) (command c other cmd random reply) ⊎ Read c l cmd n
+  call-shows cmd random reply other n file-here alike =
+      let there : Live (world c other) = record {
+        sound-card = sound-same c area other n (live .sound-card) (here c area cmd random live n file-here) (alike-in c n area other alike);
+        size-is = sym (alike .but-bytes .length-is) ∙ live .size-is;
+      } in
       rw (command-served c area live cmd random reply, command-served c other there cmd random reply)
       (go (leb replySize (length reply)) (eqb (length random) randomSize))
     where
       go : (a b : Bool)
-          → SameBut place (cond a (cond b (served (step c area cmd random) reply) (refused 3 c area reply)) (refused 1 c area reply))
+          → SameBut n (cond a (cond b (served (step c area cmd random) reply) (refused 3 c area reply)) (refused 1 c area reply))
           (cond a (cond b (served (step c other cmd random) reply) (refused 3 c other reply)) (refused 1 c other reply))
-          ⊎ Read c l cmd place
+          ⊎ Read c l cmd n
       go true true =
-          ⊎-elim (λ k. inl (both-served place (step c area cmd random) (step c other cmd random) reply k))
-          (λ b. inr (record { addressed = b .0; by-right = right-told c area live l agree place here (λ x. x .read) (b .1) }))
-          (step-same c area cmd random live place here other alike)
+          ⊎-elim (λ k. inl (both-served n (step c area cmd random) (step c other cmd random) reply k))
+          (λ b. inr (record {
+            addressed = reads-from c (sound-good c area (live .sound-card)) (framed cmd) n (file-here .first) (b .0);
+            by-right = right-told c area live l agree n file-here (λ x. x .read) (b .1);
+          }))
+          (step-same c area cmd random live n file-here other (alike-in c n area other alike))
       go true false = inl (record { answer-is = refl; reply-is = refl; areas = alike })
       go false b = inl (record { answer-is = refl; reply-is = refl; areas = alike })
 
 pub files-follow : FilesFollow
 files-follow o area es h = labels-told _ _ (after-live o area es h) (ledger o es) (follows o area es h)
-
--- the status word of a rule is that of its checks, where what it does answers 9000
-ruled-sw : (sw : ℕ) (c : Card) (e : Effect) → e .sw ≡ 0x9000 → ruled sw c e .sw ≡ sw
-ruled-sw sw c e h = split (λ (x : Effect). x .sw ≡ sw) (eqb sw 0x9000) (λ q. h ∙ sym (eqb-true sw 0x9000 q)) (λ q. refl)
-
--- what CREATE FILE asks of the card it asks of the ledger
-at-once-asked : (c : Card) (area : List ℕ) → Live (world c area) → (l : Ledger) → Agree c l → (cmd random : List ℕ) → listed (framed cmd) ≡ CreateFile
-    → atOnce c area cmd random .sw ≡ createSw l (framed cmd)
-unfolding atOnce settled outcome checks effectOf rule
-at-once-asked c area live l agree cmd random e =
-    let k = framed cmd in
-    let few = filed (c .directory) (sound-good c area (live .sound-card) .directory) .few in
-    let asked = create-same c few (l .labels) (agree .labels-are) k in
-    let held = ap (λ (x : Login). makeChecks (x .held) (l .labels) k) (agree .logins-are device) in
-    rw e
-    (ruled-sw (first (frameSw k ∷ classSw k ∷ first (createChecks c k) ∷ [])) c (did c (makes (fileGiven k))) refl
-    ∙ ap (λ (t : List ℕ). first (frameSw k ∷ classSw k ∷ first t ∷ [])) (asked ∙ held))
-
--- CREATE FILE replies no data
-no-data : (c : Card) (area cmd random : List ℕ) → listed (framed cmd) ≡ CreateFile → atOnce c area cmd random .bytes ≡ []
-unfolding atOnce settled outcome checks effectOf rule part
-no-data c area cmd random e =
-    rw e
-    (split (λ (x : Effect). x .says ++ part (x .from) (x .shows) area ≡ []) (eqb (first (frameSw (framed cmd) ∷ classSw (framed cmd) ∷ first (createChecks c (framed cmd)) ∷ [])) 0x9000) (λ q. refl) (λ q. refl))
-
-asked-told : (c : Card) (area : List ℕ) → Live (world c area) → (l : Ledger) → Agree c l → (cmd random : List ℕ) → listed (framed cmd) ≡ CreateFile
-    → step c area cmd random .sw ≡ createSw l (framed cmd)
-unfolding waitSw
-asked-told c area live l agree cmd random e =
-    let asked = at-once-asked c area live l agree cmd random e in
-    step-by (λ (s : Stepped). s .sw ≡ createSw l (framed cmd)) c area cmd random
-    (λ f. clash (isGetResponse (listed (framed cmd))) (f .by-name) (rw e refl))
-    (λ m f. ap (λ (d : List ℕ). waitSw (length d) (atOnce c area cmd random .sw)) (no-data c area cmd random e) ∙ asked)
-    (λ m f. asked)
-
-pub create-answers : CreateAnswers
-create-answers o area es h cmd random e = asked-told _ _ (after-live o area es h) (ledger o es) (follows o area es h) cmd random e
 
 pub altered : Altered
 altered o area es h e place here =
@@ -363,15 +287,15 @@ step-counts c area cmd random live =
 at-once-makes : (l : Ledger) (c : Card) (area cmd random : List ℕ) → Live (world c area) → Agree c l
     → (atOnce c area cmd random .card .directory .count ≡ c .directory .count)
     ⊎ Made l (world c area) (world (atOnce c area cmd random .card) (atOnce c area cmd random .area)) cmd
-unfolding atOnce settled bytesUsed
+unfolding atOnce settled
 at-once-makes l c area cmd random live agree =
     ⊎-elim inl
     (λ m. inr (record {
-      by-create = m .by-create;
+      by-create = subst (λ i. NamedBy i (framed cmd .cla) (framed cmd .ins)) (m .by-create) (listed-by-bytes (framed cmd));
       device-held = held-told c l agree device (m .held);
       one-more = m .one-more;
       label-is = ap labelOf (m .file-is .1 .0) ∙ m .file-is .1 .1;
-      bytes-are = m .bytes-are;
+      bytes-are = bytes-are (atOnce c area cmd random .card) (atOnce c area cmd random .area) (c .directory .count + 1) ∙ m .bytes-are;
       none-held = ap (λ (f : File). f .held) (m .file-is .1 .0);
       none-used = ap (λ (f : File). two (f .used1) (f .used2)) (m .file-is .1 .0);
     }))

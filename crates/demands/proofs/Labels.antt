@@ -25,7 +25,7 @@ use Rattle.rules.specs.State.{device, login}
 use Rattle.rules.specs.Frame.{Command, p}
 use Rattle.rules.specs.Create.{fileGiven, createChecks}
 use Rattle.demands.specs.Ledger.{Label, labelGiven, sfiOf, sizeOf, goodSize, goodRight, hasSfi, bytesTaken, makeChecks, labelIn}
-use Rattle.demands.specs.Files.{labelOf}
+use Rattle.demands.specs.Held.{labelOf}
 
 -- each file made, the latest first, has its label
 abbrev pub EachIs : List File → List Label → Type 0
@@ -119,11 +119,10 @@ appended-label f n = split (λ (g : File). labelOf g ≡ labelOf f) (isVariable 
 
 -- what CREATE FILE gives
 pub given-label : (k : Command) → labelOf (fileGiven k) ≡ labelGiven k
-unfolding fileGiven labelGiven
+unfolding fileGiven
 given-label k = refl
 
 given-sfi : (k : Command) → p k % 32 ≡ sfiOf (labelGiven k)
-unfolding labelGiven
 given-sfi k = refl
 
 -- and what it asks

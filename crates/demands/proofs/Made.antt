@@ -26,7 +26,7 @@ use Rattle.rules.specs.List.{role, Rule, ofFiles, ofCredentials, rule}
 use Rattle.rules.specs.Step.{did, touched, checks, effectOf, outcome}
 use Rattle.rules.proofs.Good.{sound-good}
 use Rattle.demands.specs.Ledger.{Label, passes, labelled}
-use Rattle.demands.specs.Files.{labelOf}
+use Rattle.demands.specs.Held.{labelOf}
 use Rattle.demands.proofs.Labels.{Matches, each-past, each-again, appended-label}
 use Rattle.demands.proofs.Rows.{ruledBy, Fair, labelsBy, all-passed, Row, row}
 use Rattle.demands.proofs.Files.{compare-by}

@@ -1,26 +1,20 @@
 -- No file goes, and none gets another label: of the ledger's list, and so of the card.
 use Prim.Native.Nat.{ℕ, suc, _≤_}
-use mathlib.Core.Bool.{true}
 use mathlib.Core.List.{List, [], _∷_, _++_}
 use mathlib.Core.Path.{_≡_, refl, sym, _∙_}
 use native.Mathlib.Nat.{le-refl}
 use native.Mathlib.Omega.{arith}
 use lib.ListN.{length}
 use borrow.Author.Tests.{ne-eqb}
-use Rattle.files.specs.Directory.{isPlace}
-use Rattle.files.specs.Sound.{soundDirectory}
 use Rattle.files.proofs.Checks.{split}
-use Rattle.files.proofs.Extents.{place-is}
 use Rattle.rules.specs.State.{device, Logins}
 use Rattle.rules.specs.Frame.{Command, framed}
 use Rattle.rules.specs.List.{listed, Role, touchesNothing, readsBinary, readsRecord, writesBinary, writesRecord, makesFile, presentsPin, presentsKey, changesPin, reloadsPin, asksChallenge, role}
 use Rattle.rules.specs.Calls.{Order}
-use Rattle.rules.proofs.Good.{sound-good}
-use Rattle.rules.proofs.Targets.{used-count, place-named}
 use Rattle.demands.specs.Ledger.{Event, sent, resets, Label, passes, labelGiven, makeChecks, labelled, labelIn, Ledger, tells, servable, next, tell, ledger}
-use Rattle.demands.specs.Run.{Served, after}
+use Rattle.demands.specs.Run.{after}
 use Rattle.demands.specs.Files.{FilesRemain}
-use Rattle.demands.proofs.Live.{after-live}
+use Rattle.demands.specs.Held.{IsFile}
 use Rattle.demands.proofs.History.{files-follow}
 
 -- a later list of labels has all of an earlier one, each in its place
@@ -76,16 +70,11 @@ ledger-grown : (o : Order) (es more : List Event) → Grown (ledger o es .labels
 unfolding ledger
 ledger-grown o es more = tell-grown _ es more
 
-directory-sound : (o : Order) (area : List ℕ) (es : List Event) → Served o area → soundDirectory (after o area es .card .directory) ≡ true
-directory-sound o area es h = sound-good _ _ (after-live o area es h .sound-card) .directory
-
 pub files-remain : FilesRemain
-files-remain o area es more h place here =
+files-remain o area es more h n here =
     let now = files-follow o area es h in
     let later = files-follow o area (es ++ more) h in
     let grown = ledger-grown o es more in
-    let at = place-is (after o area es .card .directory) place here in
-    let low : place ≤ length (ledger o es .labels) = rw (← now .count-is, ← used-count _ (directory-sound o area es h)) (at .1) in
-    let there : isPlace (after o area (es ++ more) .card .directory) place ≡ true =
-    place-named _ (directory-sound o area (es ++ more) h) place (at .0) (rw (later .count-is) (omega (arith, low, grown .longer))) in
-    record { there = there; label-is = later .label-is place there ∙ grown .label-is place low ∙ sym (now .label-is place here) }
+    let low : n ≤ length (ledger o es .labels) = rw (← now .count-is) (here .last) in
+    let there : IsFile (after o area (es ++ more) .card) n = record { first = here .first; last = rw (later .count-is) (omega (arith, low, grown .longer)) } in
+    record { there = there; label-is = later .label-is n there ∙ grown .label-is n low ∙ sym (now .label-is n here) }

@@ -1,12 +1,12 @@
 -- What each command's rule is against its role, a clause for each command. All other proofs go by the rule: what a command does to the files, or to the
 -- credentials.
 use Prim.Native.Nat.{ℕ, _+_, _≤_}
-use mathlib.Core.Bool.{Bool, true, false, cond, not}
+use mathlib.Core.Bool.{Bool, true, false, cond, not, _&&_}
 use mathlib.Core.List.{List, [], _∷_}
 use mathlib.Core.Path.{_≡_, refl, sym, ap, _∙_}
 use native.Mathlib.Omega.{arith}
 use lib.ListN.{length, take}
-use lib.Dec.{eqb}
+use lib.Dec.{eqb, leb}
 use borrow.Author.Tests.{eqb-true, not-true}
 use Rattle.files.specs.declared.File.{File}
 use Rattle.files.specs.declared.Located.{Located}
@@ -15,16 +15,16 @@ use Rattle.files.specs.Types.{binary, isVariable, size}
 use Rattle.files.specs.Directory.{extent}
 use Rattle.files.specs.Record.{nextStart, entry, appended, appendsRecord}
 use Rattle.files.specs.Create.{areaSize, creates}
-use Rattle.files.proofs.Checks.{split}
+use Rattle.files.proofs.Checks.{both, split}
 use Rattle.files.proofs.Parting.{Stored, stored-plain}
 use Rattle.files.proofs.Served.{binary-fits}
 use Rattle.files.proofs.Kept.{filed}
 use Rattle.rules.specs.declared.Card.{Card}
 use Rattle.rules.specs.declared.Ins.{Ins}
 use Rattle.rules.specs.declared.Ins.the-variants.{Select, ReadBinary, UpdateBinary, ReadRecord, UpdateRecord, AppendRecord, Verify, Authenticate, ChangePin, ReloadPin, CreateFile, GetChallenge, GetResponse, Unlisted}
-use Rattle.rules.specs.Words.{unless, first}
+use Rattle.rules.specs.Words.{unless, first, allOf}
 use Rattle.rules.specs.State.{Which, admin, user, device, numberOf, Login, Logins, login, logins, challenge}
-use Rattle.rules.specs.Sound.{isKey, goodPin, goodChallenge, sound}
+use Rattle.rules.specs.Sound.{digit, isKey, goodPin, goodChallenge, sound}
 use Rattle.rules.specs.Frame.{Command, lc, frameSw, classSw}
 use Rattle.rules.specs.Effect.{Deed, turns, shows, stores, appends, makes, Touch, nothing, presents, changes, reloads, challenges, Effect, answers}
 use Rattle.rules.specs.Select.{selectChecks}
@@ -42,9 +42,10 @@ use Rattle.rules.proofs.Asked.{some-file, binary-asked, create-asked, pin-asked
 use Rattle.rules.proofs.Found.{read-fits, read-long, update-fits, update-stored, append-fits, append-stored}
 use Rattle.rules.proofs.Found as found
 use Rattle.rules.proofs.Equal.{cryptogram-is}
-use Rattle.demands.specs.Ledger.{Kind, other, changed, reloaded, Label, passes, presented, about, kind, challenged, labelGiven, labelled}
-use Rattle.demands.specs.Files.{writesTo, readsFrom, labelOf}
+use Rattle.demands.specs.Ledger.{Kind, other, changed, reloaded, Label, pinSent, inDigits, presentAsks, keyAsks, changeAsks, reloadAsks, challengeAsks, response, passes, presented, about, kind, challenged, labelGiven, labelled, pinOf}
+use Rattle.demands.specs.Held.{labelOf}
 use Rattle.demands.proofs.Labels.{Matches, given-label, create-same}
+use Rattle.demands.proofs.Addressed.{writesTo, readsFrom}
 
 -- what comes of a command by its rule
 abbrev pub ruledBy : Rule → Card → Located → Command → List ℕ → Effect
@@ -286,6 +287,59 @@ module _ (l : Logins) (k : Command) where
   unfolding reloadChecks
   pin-reloaded p = (refl, holds (l admin .held) 0x6982 refl (p .1 .1 .0), pin-asked k (holds (pinGiven k) 0x6700 refl (p .1 .0)) (p .1 .1 .1 .0))
 
+-- the ledger's own words for the credential commands are the rules'
+digits-same : (d : List ℕ) → inDigits d ≡ allOf digit d
+unfolding inDigits allOf
+digits-same [] = refl
+digits-same (b ∷ d) = ap (λ (t : Bool). digit b && t) (digits-same d)
+
+-- the PIN that is named
+pin-same : (k : Command) → pinOf k ≡ pinNamed k
+pin-same k = go (eqb (k .p2) 0x00)
+  where
+    go : (b : Bool) → cond b admin user ≡ whichOf b admin user
+    go true = refl
+    go false = refl
+
+key-same : (l : Logins) (ch : List ℕ) (k : Command) → keyAsks (l device) ch k ≡ authenticateChecks l ch k
+unfolding keyAsks authenticateChecks
+key-same l ch k = refl
+
+change-same : (l : Logins) (k : Command) → changeAsks (l (pinNamed k)) k ≡ changeChecks l k
+unfolding changeAsks changeChecks
+change-same l k = rw (digits-same (k .given))
+
+reload-same : (l : Logins) (k : Command) → reloadAsks (l admin) k ≡ reloadChecks l k
+unfolding reloadAsks reloadChecks
+reload-same l k = rw (digits-same (k .given))
+
+challenge-same : (k : Command) → challengeAsks k ≡ getChallengeChecks k
+unfolding challengeAsks getChallengeChecks
+challenge-same k = refl
+
+-- a VERIFY without data is no presentation
+module _ (l : Logins) (k : Command) where
+  no-data : eqb (k .case) 1 ≡ true → passes (presentAsks (l (pinNamed k)) k) k ≡ false
+  unfolding presentAsks
+  no-data e = go (passes (presentAsks (l (pinNamed k)) k) k) refl
+    where
+      go : (b : Bool) → passes (presentAsks (l (pinNamed k)) k) k ≡ b → b ≡ false
+      go false q = refl
+      go true q =
+          let three = both (eqb (k .case) 3) (leb 6 (lc k) && leb (lc k) 16) (holds (pinSent k) 0x6700 refl (all-passed (presentAsks (l (pinNamed k)) k) k q .1 .0)) .0 in
+          absurd (omega (arith, eqb-true (k .case) 1 e, eqb-true (k .case) 3 three))
+
+  with-data : eqb (k .case) 1 ≡ false → first (presentAsks (l (pinNamed k)) k) ≡ first (verifyChecks l k)
+  unfolding presentAsks verifyChecks
+  with-data e = rw (e, digits-same (k .given))
+
+  verify-same : (x : Kind) → cond (passes (presentAsks (l (pinNamed k)) k) k) x other ≡ cond (passes (verifyChecks l k) k) (cond (eqb (k .case) 1) other x) other
+  verify-same x = go (eqb (k .case) 1) refl
+    where
+      go : (b : Bool) → eqb (k .case) 1 ≡ b → cond (passes (presentAsks (l (pinNamed k)) k) k) x other ≡ cond (passes (verifyChecks l k) k) (cond b other x) other
+      go true e = rw (no-data e) (either-way (passes (verifyChecks l k) k) other)
+      go false e = ap (λ sw. cond (eqb (first (frameSw k ∷ classSw k ∷ sw ∷ [])) 0x9000) x other) (with-data e)
+
 pub row : (i : Ins) → Row i (rule i)
 unfolding rule kind challenged labelled writesTo readsFrom
 row Select = record {
@@ -326,26 +380,31 @@ row AppendRecord = record {
 }
 row Verify = record {
   kind-is = λ l ch k w.
-      ap (λ x. cond (passes (verifyChecks l k) k) x other) (query-kind (eqb (k .case) 1) (pinNamed k) (l (pinNamed k) .value) (k .given) w);
+      ap (λ (x : Which). cond (passes (presentAsks (l x) k) k) (about x w (presented (l x .value) (k .given))) other) (pin-same k)
+      ∙ verify-same l k (about (pinNamed k) w (presented (l (pinNamed k) .value) (k .given)))
+      ∙ ap (λ x. cond (passes (verifyChecks l k) k) x other) (query-kind (eqb (k .case) 1) (pinNamed k) (l (pinNamed k) .value) (k .given) w);
   left-is = λ l ch k random. query-left (eqb (k .case) 1) (pinNamed k) (l (pinNamed k) .value) (k .given) (passes (verifyChecks l k) k) random;
   labels-are = λ l made k. refl;
   fair = λ l ch k p. pin-presented l k p;
 }
 row Authenticate = record {
   kind-is = λ l ch k w.
-      ap (λ (x : List ℕ). cond (passes (authenticateChecks l ch k) k) (about device w (presented x (k .given))) other) (sym (cryptogram-is (l device .value) ch));
+      ap (λ (t : List ℕ). cond (passes t k) (about device w (presented (response (l device .value) ch) (k .given))) other) (key-same l ch k)
+      ∙ ap (λ (x : List ℕ). cond (passes (authenticateChecks l ch k) k) (about device w (presented x (k .given))) other) (sym (cryptogram-is (l device .value) ch));
   left-is = λ l ch k random. either-way (passes (authenticateChecks l ch k) k) [];
   labels-are = λ l made k. refl;
   fair = λ l ch k p. key-presented l k ch p;
 }
 row ChangePin = record {
-  kind-is = λ l ch k w. refl;
+  kind-is = λ l ch k w.
+      ap (λ (x : Which). cond (passes (changeAsks (l x) k) k) (about x w (changed (k .given))) other) (pin-same k)
+      ∙ ap (λ (t : List ℕ). cond (passes t k) (about (pinNamed k) w (changed (k .given))) other) (change-same l k);
   left-is = λ l ch k random. either-way (passes (changeChecks l k) k) [];
   labels-are = λ l made k. refl;
   fair = λ l ch k p. pin-changed l k p;
 }
 row ReloadPin = record {
-  kind-is = λ l ch k w. refl;
+  kind-is = λ l ch k w. ap (λ (t : List ℕ). cond (passes t k) (about user w (reloaded (k .given))) other) (reload-same l k);
   left-is = λ l ch k random. either-way (passes (reloadChecks l k) k) [];
   labels-are = λ l made k. refl;
   fair = λ l ch k p. pin-reloaded l k p;
@@ -358,7 +417,7 @@ row CreateFile = record {
 }
 row GetChallenge = record {
   kind-is = λ l ch k w. either-way (passes (getChallengeChecks k) k) other;
-  left-is = λ l ch k random. refl;
+  left-is = λ l ch k random. ap (λ (t : List ℕ). cond (passes t k) (take (k .le) random) []) (challenge-same k);
   labels-are = λ l made k. refl;
   fair = λ l ch k p. challenge-asked k p;
 }

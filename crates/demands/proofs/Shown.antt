@@ -1,17 +1,17 @@
 -- Bytes that wait are shown by the command that made them wait.
-use Prim.Native.Nat.{ℕ, _+_, _≤_, min}
-use mathlib.Core.Bool.{Bool, true, false, cond}
-use mathlib.Core.List.{List, [], _∷_, _++_, append-nil}
+use Prim.Native.Nat.{ℕ, _≤_, min}
+use mathlib.Core.Bool.{true}
+use mathlib.Core.List.{List, [], _++_, append-nil}
 use mathlib.Core.Logic.{_⊎_, inl, inr, ⊎-elim, by-cases}
-use native.Mathlib.Decide.{decLe}
 use mathlib.Core.Path.{_≡_, refl, sym, ap, _∙_}
+use native.Mathlib.Decide.{decLe}
 use native.Mathlib.Omega.{arith}
 use lib.ListN.{length, take, drop, length-take, length-drop, drop-of-length-le}
 use lib.Seq.{take-all, take-take}
 use Rattle.files.specs.Words.{isZero}
 use Rattle.files.specs.Part.{part}
 use Rattle.files.specs.Types.{size}
-use Rattle.files.specs.Directory.{start, extent, isPlace}
+use Rattle.files.specs.Directory.{start, extent}
 use Rattle.files.proofs.Checks.{split}
 use Rattle.files.proofs.Parts.{part-part}
 use Rattle.files.proofs.Extents.{lies}
@@ -33,15 +33,17 @@ use Rattle.rules.proofs.Good.{sound-good, sound-parted, filled-back, said-short
 use Rattle.rules.proofs.Checks.{either}
 use Rattle.rules.proofs.Targets.{place-named}
 use Rattle.demands.specs.Ledger.{Event, sent, resets, Ledger, servable, ledger}
-use Rattle.demands.specs.Run.{World, world, called, after}
-use Rattle.demands.specs.Files.{readsFrom, Read}
+use Rattle.demands.specs.Run.{World, world, called}
 use Rattle.demands.specs.Response.{PutByRead, PutByChallenge, LeftOf, PutBy, WaitingByRight}
+use Rattle.demands.specs.Held.{IsFile}
 use Rattle.demands.proofs.Rows.{Fair, FairTouch, by-rule}
 use Rattle.demands.proofs.Delivered.{at-once-response, fetched-by, step-by}
 use Rattle.demands.proofs.Soundness.{waiting-few}
 use Rattle.demands.proofs.Live.{Live, after-live, command-is, reset-is}
 use Rattle.demands.proofs.Follows.{Agree, follows}
 use Rattle.demands.proofs.History.{right-told}
+use Rattle.demands.proofs.Addressed.{readsFrom, reads-from}
+use Rattle.demands.proofs.View.{bytes-are}
 
 nothing-shown : (area : List ℕ) → part 0 0 area ≡ []
 unfolding part
@@ -68,7 +70,7 @@ record ReadData (i : Ins) (c : Card) (area : List ℕ) (k : Command) (e : Effect
   place : ℕ
   from : ℕ
   count : ℕ
-  here : isPlace (c .directory) place ≡ true
+  here : IsFile c place
   named : readsFrom (role i) c k ≡ place
   held : opens c (fileOf c place .read) ≡ true
   data-are : data-of e area ≡ part from count (extent (c .directory) place area)
@@ -93,7 +95,7 @@ module _ (c : Card) (area : List ℕ) (live : Live (world c area)) (i : Ins) (k 
         place = place;
         from = at;
         count = n;
-        here = named;
+        here = record { first = q .entitled .some; last = q .entitled .low };
         named = q .entitled .named-is;
         held = q .entitled .held;
         data-are = sym (part-part area (start (c .directory) place) (size (fileOf c place)) at n fits (q .fits));
@@ -123,7 +125,7 @@ module _ (c : Card) (area : List ℕ) (live : Live (world c area)) (l : Ledger) 
       (λ t q. touch-source c area live i (framed cmd) t random q) (λ sw. none c area live i (framed cmd) sw c)
 
   kept-source : LeftOf (world c area) v ⊎ (PutByRead (world c area) v l cmd ⊎ PutByChallenge v)
-  unfolding atOnce settled
+  unfolding atOnce settled part
   kept-source =
       let e = outcome (listed (framed cmd)) c (recordFound c area (framed cmd)) (framed cmd) random in
       let waits = waits-back (mode (e .card)) (take responseSize (data-of e area)) in
@@ -134,11 +136,16 @@ module _ (c : Card) (area : List ℕ) (live : Live (world c area)) (l : Ledger) 
       }))
       (λ z. inr (⊎-elim
       (λ (r : ReadData (listed (framed cmd)) c area (framed cmd) e). inl (record {
-        place = r .place;
+        n = r .place;
         from = r .from;
         count = min responseSize (r .count);
-        read = record { addressed = r .named; by-right = right-told c area live l agree (r .place) (r .here) (λ x. x .read) (r .held) };
-        waiting-are = waits ∙ ap (take responseSize) (r .data-are) ∙ part-cut responseSize (r .from) (r .count) (extent (c .directory) (r .place) area);
+        read = record {
+          addressed = reads-from c (sound-good c area (live .sound-card)) (framed cmd) (r .place) (r .here .first) (r .named);
+          by-right = right-told c area live l agree (r .place) (r .here) (λ x. x .read) (r .held);
+        };
+        waiting-are =
+            waits ∙ ap (take responseSize) (r .data-are) ∙ part-cut responseSize (r .from) (r .count) (extent (c .directory) (r .place) area)
+            ∙ ap (λ (b : List ℕ). take (min responseSize (r .count)) (drop (r .from) b)) (sym (bytes-are c area (r .place)));
       }))
       (λ (q : (data-of e area ≡ e .says) × (length (e .says) ≤ responseSize)).
       inr (waits ∙ ap (take responseSize) (q .0) ∙ take-all responseSize (e .says) (q .1) ∙ sym (filled-back (e .says)))) z)) source

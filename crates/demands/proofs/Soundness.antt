@@ -9,7 +9,6 @@ use native.Mathlib.Nat.{le-refl}
 use native.Mathlib.Omega.{arith}
 use lib.ListN.{length, drop, length-append, length-take, length-replicate}
 use lib.Seq.{length-take-le}
-use borrow.Author.Tests.{eq-eqb}
 use Rattle.files.specs.declared.File.{File}
 use Rattle.files.specs.Words.{every, allBelow, isZero}
 use Rattle.files.specs.Part.{part, splice, over, zeros}
@@ -19,8 +18,7 @@ use Rattle.files.specs.Record.{partedFile}
 use Rattle.files.specs.Create.{areaSize, created}
 use Rattle.files.proofs.Parts.{splice-length, over-length}
 use Rattle.files.proofs.Checks.{each, both, split}
-use Rattle.files.proofs.Extents.{file-set, used-is, place-is, lies}
-use Rattle.files.proofs.Appends.{cyclic-room}
+use Rattle.files.proofs.Extents.{file-set, used-is, lies}
 use Rattle.files.proofs.Making.{makes as made-in}
 use Rattle.files.proofs.Kept.{PartedIn, filed, sound-append, sound-created, new-parted, lies-in-area, place-parted, parted-none, parted-in}
 use Rattle.rules.specs.declared.Card.{Card}
@@ -28,7 +26,7 @@ use Rattle.rules.specs.declared.Ins.{Ins}
 use Rattle.rules.specs.declared.Response.{Response}
 use Rattle.rules.specs.Words.{same, byte, swBytes}
 use Rattle.rules.specs.Tries.{goodLimit}
-use Rattle.rules.specs.State.{Which, whiches, numberOf, marked, login, logins, mode, waitCount, waiting, blankCard, withCurrent, withValue}
+use Rattle.rules.specs.State.{Which, whiches, numberOf, marked, login, logins, mode, waitCount, waiting, withCurrent, withValue}
 use Rattle.rules.specs.Sound.{isKey, goodMode, goodPin, goodValue, soundValue, soundCredential, soundState, sound}
 use Rattle.rules.specs.Frame.{Command, framed}
 use Rattle.rules.specs.Effect.{Deed, turns, shows, stores, appends, makes, Touch, nothing, presents, changes, reloads, challenges, Effect, answers, storing}
@@ -38,12 +36,12 @@ use Rattle.rules.specs.Pins.{comparedAt}
 use Rattle.rules.specs.List.{listed, role}
 use Rattle.rules.specs.Response.{fetchCount}
 use Rattle.rules.specs.Step.{did, touched, outcome, Stepped, settled, atOnce, step}
-use Rattle.rules.specs.Calls.{Order, goodGiven, goodOrder, fresh, cleared, answer, refused, issued}
-use Rattle.demands.specs.Soundness.{Bytes, StepSound, CyclicRoom, StepArea, StepReply, CommandSound, CommandArea, CommandReply, CommandCount, CommandServed, ResetSound, ResetServed, IssueServed, IssueArea, BlankUnsound, CommandRefused, ResetRefused, IssueRefused}
+use Rattle.rules.specs.Calls.{Order, goodGiven, goodOrder, fresh, cleared, answer}
 use Rattle.rules.proofs.Checks.{either}
-use Rattle.demands.proofs.Calls.{called-by, reset-by, issued-by}
 use Rattle.rules.proofs.Good.{Good, for-which, sound-good, sound-parted, sound-both, tried-full, tried-lowered, value-sound, sayable, said-short, placed, turned, tried-in, logged, valued, challenged, responded, waited, ended, made}
-use Rattle.rules.proofs.Targets.{used-count, place-named, place-held, place-run}
+use Rattle.rules.proofs.Targets.{place-named, place-run}
+use Rattle.demands.specs.Soundness.{Bytes, StepSound, StepArea, StepReply, CommandSound, CommandArea, CommandReply, CommandCount, CommandServed, ResetSound, ResetServed, IssueServed, IssueArea, BlankUnsound}
+use Rattle.demands.proofs.Calls.{called-by, reset-by, issued-by}
 use Rattle.demands.proofs.Rows.{FairStore, Fair, FairTouch, by-rule}
 use Rattle.demands.proofs.Delivered.{at-once-response, fetched-by, step-by}
 use Rattle.demands.proofs.Files.{treats, treated-parted}
@@ -216,12 +214,6 @@ step-sound c area cmd random h a l =
     (λ m f. sound-both _ _ (waited (atOnce c area cmd random .card) now (atOnce c area cmd random .bytes) (inl (ap (λ (r : Response). marked (r .mode)) (at-once-response c area cmd random) ∙ m))) parted)
     (λ m f. sound-both _ _ now parted)
 
-pub cyclic-has-room : CyclicRoom
-cyclic-has-room c area place n h here k r =
-    let d = sound-good c area h .directory in
-    let w = place-is (c .directory) place here in
-    cyclic-room (fileOf c place) n (eq-eqb _ _ k) (place-held (c .directory) d place (w .0) (rw (← used-count (c .directory) d) (w .1))) r
-
 pub step-area : StepArea
 step-area c area cmd random h a =
     step-by (λ (s : Stepped). length (s .area) ≡ length area) c area cmd random
@@ -260,11 +252,6 @@ command-served c area cmd random reply =
     called-by (λ d. d .answer .outcome ≡ 0 → sound (d .answer .card) (d .area) ≡ true) c area cmd random reply
     (λ r a l s z. step-sound c area cmd random s a l) (λ o n z. absurd (omega arith))
 
-pub command-refused : CommandRefused
-command-refused c area cmd random reply =
-    called-by (λ d. (d .answer .outcome ≡ 0 → ⊥) → d ≡ refused (d .answer .outcome) c area reply) c area cmd random reply
-    (λ r a l s z. absurd (z refl)) (λ o n z. refl)
-
 cleared-sound : (c : Card) (area : List ℕ) → sound c area ≡ true → sound (cleared c) area ≡ true
 cleared-sound c area h = sound-both _ area (ended c (sound-good c area h)) (sound-parted c area h)
 
@@ -274,9 +261,6 @@ reset-sound c area h = reset-by (λ a. sound (a .card) area ≡ true) c area (λ
 pub reset-served : ResetServed
 reset-served c area =
     reset-by (λ a. a .outcome ≡ 0 → sound (a .card) area ≡ true) c area (λ z e q. cleared-sound c area e) (λ o n q. absurd (omega arith))
-
-pub reset-refused : ResetRefused
-reset-refused c area = reset-by (λ a. (a .outcome ≡ 0 → ⊥) → a ≡ answer (a .outcome) c 0) c area (λ z e q. absurd (q refl)) (λ o n q. refl)
 
 -- all of the order's credentials, and its mode
 order-good : (o : Order) → goodOrder o ≡ true → (every (map (λ w. goodGiven (numberOf w) (o .given w)) whiches) ≡ true) × (goodMode (o .mode) ≡ true)
@@ -301,11 +285,6 @@ issue-served o area =
 
 pub issue-area : IssueArea
 issue-area o area = issued-by (λ i. length (i .area) ≡ length area) o area (λ a e. length-replicate {A = ℕ} areaSize 0 ∙ sym a) (λ n m. refl)
-
-pub issue-refused : IssueRefused
-issue-refused o area =
-    issued-by (λ i. (i .answer .outcome ≡ 0 → ⊥) → i ≡ issued (answer (i .answer .outcome) blankCard 0) area) o area
-    (λ a e z. absurd (z refl)) (λ n m z. refl)
 
 pub blank-unsound : BlankUnsound
 unfolding sound soundState soundCredential soundValue goodValue goodPin over allBelow

@@ -12,7 +12,6 @@ use Rattle.files.specs.Directory.{used, startAt}
 use Rattle.files.specs.Record.{soundHeld}
 use Rattle.files.specs.Create.{areaSize}
 use Rattle.files.specs.Sound.{soundFile, unusedPlace, sfisDiffer, soundDirectory, partedArea}
-use Rattle.rules.specs.declared.Card.{Card}
 use Rattle.rules.specs.Words.{orElse, allOf, same, byte}
 use Rattle.rules.specs.State.{user, forEach, numberOf, Login, login, challenge, waiting}
 use Rattle.rules.specs.Sound.{goodMode, goodPin, goodValue, soundValue, soundTries, soundCredential, soundChallenge, soundResponse, soundState, sound}
@@ -24,11 +23,11 @@ use Rattle.rules.specs.Device.{getChallengeChecks}
 use Rattle.rules.specs.Response.{waitSw, getResponseChecks, fetches}
 use Rattle.rules.specs.Step.{checks, effectOf, outcome, settled, atOnce, fetched, step}
 use Rattle.rules.specs.Calls.{Done, Order, replySize, command, goodOrder, issue}
+use Rattle.rules.proofs.Good.{numbered}
 use Rattle.demands.specs.Ledger.{Event, sent, Page}
 use Rattle.demands.specs.Run.{World, run, after}
 use Rattle.demands.specs.Follows.{Agrees}
 use Rattle.demands.specs.WrongCards.{Box, Fails, dropsAtRefusal, keepsWaiting, saysNothingWaits, dropsChallenge, DropsAtRefusal, KeepsWaiting, SaysNothingWaits, DropsChallenge, refusesAll, onlySays, neverAlters, obeysOnce, FailsNotMeets, RefusesAll, OnlySays, NeverAlters, ObeysOnce, RulesMeet, MadeUpBreaks}
-use Rattle.rules.proofs.Good.{numbered}
 use Rattle.demands.proofs.Live.{after-live}
 use Rattle.demands.proofs.Follows.{login-set, full}
 use Rattle.demands.proofs.Bound.{credentials-follow}

@@ -1,3 +1,5 @@
--- Laws that the proofs of the functions cite.
+-- Laws that the proofs of the functions cite, here and above.
 pub mod Values
 pub mod Written
+pub mod Decimal
+pub mod Drawn

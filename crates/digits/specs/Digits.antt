@@ -1,9 +1,8 @@
 -- Numbers in decimal without leading zeros, bytes in upper-case hex or -, and what a digit stands for.
-use Prim.Native.Nat.{ℕ, _+_, _-_, _*_, _/_, _%_}
+use Prim.Native.Nat.{ℕ, zero, suc, _+_, _-_, _*_, _/_, _%_}
 use mathlib.Core.Bool.{cond, _&&_}
 use mathlib.Core.List.{List, [], _∷_, _++_}
 use lib.Dec.{leb, ltb}
-use lib.ListN.{drop}
 
 -- what ends a field, and what ends a line
 abbrev pub tab : ℕ
@@ -20,14 +19,14 @@ ended b text = text ++ (b ∷ [])
 abbrev pub lastDigit : ℕ → ℕ
 lastDigit n = 48 + n % 10
 
--- how many digits a number below 100,000 has
-unfoldable pub places : ℕ → ℕ
-places n = cond (ltb n 10) 1 (cond (ltb n 100) 2 (cond (ltb n 1000) 3 (cond (ltb n 10000) 4 5)))
+-- the digits of a number below 10 ^ (k + 1), without leading zeros: those of its tens, and the last
+unfoldable pub digitsIn : ℕ → ℕ → List ℕ
+digitsIn zero n = lastDigit n ∷ []
+digitsIn (suc k) n = cond (ltb n 10) (lastDigit n ∷ []) (ended (lastDigit n) (digitsIn k (n / 10)))
 
--- a number below 100,000: five digits without the leading zeros
+-- a number in decimal: twenty digits are enough for 64 bits, and no number of the code has more
 unfoldable pub decimal : ℕ → List ℕ
-decimal n =
-    drop (5 - places n) (lastDigit (n / 10000) ∷ lastDigit (n / 1000) ∷ lastDigit (n / 100) ∷ lastDigit (n / 10) ∷ lastDigit n ∷ [])
+decimal n = digitsIn 19 n
 
 -- a digit below 16
 unfoldable pub hexDigit : ℕ → ℕ

@@ -1,2 +1,3 @@
--- Bytes and numbers as they are written in lines.
+-- Bytes and numbers as they are written in lines, and how they are put down.
 pub mod Digits
+pub mod Page

@@ -1,39 +1,17 @@
-// Digits, hex and decimal: written and read, one at a time.
+// Digits, hex and decimal: written and read, one at a time, and the writer of fields.
 ghost use mathlib.Core.Path.{_≡_};
 ghost use Prim.Native.Nat.{_/_, _%_, _≤_};
 ghost use Rattle.files.specs.Words.{Bounded};
-ghost use Rattle.digits.specs.Digits.{lastDigit, places, hexDigit, value, hexPair};
+ghost use Rattle.digits.specs.Digits.{hexDigit, value, hexPair};
+
+pub mod page;
+
 use files::and_or::both;
 use files::numbers::wide;
 
 pub const TAB: u8 = 9;
 
 pub const NEWLINE: u8 = 10;
-
-pub fn last_digit(n: u16) -> u8
-    ensures { λ r. ⌜ r ≡ lastDigit n ⌝ }
-{
-    48 + (n % 10) as u8
-}
-
-// How many digits a number has.
-pub fn places(n: u16) -> usize
-    ensures { λ r. ⌜ Bounded 5 (places n) r ⌝ }
-{
-    if n < 10 {
-        return 1;
-    }
-    if n < 100 {
-        return 2;
-    }
-    if n < 1000 {
-        return 3;
-    }
-    if n < 10000 {
-        return 4;
-    }
-    5
-}
 
 // A digit below 16.
 fn hex_digit(n: u8) -> u8
@@ -44,14 +22,14 @@ fn hex_digit(n: u8) -> u8
 }
 
 // The first digit of a byte.
-pub fn high_digit(b: u8) -> u8
+fn high_digit(b: u8) -> u8
     ensures { λ r. ⌜ r ≡ hexDigit (b / 16) ⌝ }
 {
     hex_digit(b / 16)
 }
 
 // The second one.
-pub fn low_digit(b: u8) -> u8
+fn low_digit(b: u8) -> u8
     ensures { λ r. ⌜ r ≡ hexDigit (b % 16) ⌝ }
 {
     hex_digit(b % 16)

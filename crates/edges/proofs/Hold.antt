@@ -47,15 +47,12 @@ use Rattle.edges.specs.Sound.{credentials, directories, sessions}
 use Rattle.edges.specs.Response.{fetching, discarding, modes, responses, login-fetched}
 use Rattle.edges.specs.Login.{login}
 use Rattle.edges.specs.FrameRanges.{class-bytes, ins-bytes, frame-lengths}
-use Rattle.edges.specs.ParameterRanges.{p-of-files, p-of-credentials, sfis}
-use Rattle.edges.specs.LengthRanges.{lc-bytes, le-bytes}
+use Rattle.edges.specs.ParameterRanges.{sfis}
 use Rattle.edges.specs.OffsetRanges.{offsets}
-use Rattle.edges.specs.RightsRanges.{rights-created, rights-asked, rights-table}
+use Rattle.edges.specs.RightsRanges.{rights-created, rights-asked}
 use Rattle.edges.specs.PinRanges.{pin-digits, pin-tries, orders, staying}
 use Rattle.edges.specs.LoginRanges.{cryptograms, login-of-4, login-of-8}
-use Rattle.edges.specs.NoteRanges.{note-lengths, note-reads, ends}
-use Rattle.edges.specs.ResponseRanges.{waiting-counts, fetch-les, fetch-counts, cuts, response-bytes, response-frames, both-modes, sound-responses, response-places, issue-modes}
-use Rattle.edges.specs.Unsound.{unsound-credentials, unsound-directories, unsound-sessions, unsound-responses, sound-cards}
+use Rattle.edges.specs.ResponseRanges.{response-bytes, issue-modes}
 use Rattle.edges.specs.Edges.{edges, EachHolds}
 
 -- whether rows hold, by computation: to unfold this is to unfold every rule that a row may need
@@ -155,25 +152,9 @@ pub frame-lengths-hold : allHold frame-lengths ≡ true
 unfolding computed
 frame-lengths-hold = refl
 
-pub p-of-files-hold : allHold p-of-files ≡ true
-unfolding computed
-p-of-files-hold = refl
-
-pub p-of-credentials-hold : allHold p-of-credentials ≡ true
-unfolding computed
-p-of-credentials-hold = refl
-
 pub sfis-hold : allHold sfis ≡ true
 unfolding computed
 sfis-hold = refl
-
-pub lc-bytes-hold : allHold lc-bytes ≡ true
-unfolding computed
-lc-bytes-hold = refl
-
-pub le-bytes-hold : allHold le-bytes ≡ true
-unfolding computed
-le-bytes-hold = refl
 
 pub offsets-hold : allHold offsets ≡ true
 unfolding computed
@@ -186,10 +167,6 @@ rights-created-hold = refl
 pub rights-asked-hold : allHold rights-asked ≡ true
 unfolding computed
 rights-asked-hold = refl
-
-pub rights-table-hold : allHold rights-table ≡ true
-unfolding computed
-rights-table-hold = refl
 
 pub pin-digits-hold : allHold pin-digits ≡ true
 unfolding computed
@@ -219,78 +196,14 @@ pub login-of-8-hold : allHold login-of-8 ≡ true
 unfolding computed
 login-of-8-hold = refl
 
-pub note-lengths-hold : allHold note-lengths ≡ true
-unfolding computed
-note-lengths-hold = refl
-
-pub note-reads-hold : allHold note-reads ≡ true
-unfolding computed
-note-reads-hold = refl
-
-pub ends-hold : allHold ends ≡ true
-unfolding computed
-ends-hold = refl
-
-pub waiting-counts-hold : allHold waiting-counts ≡ true
-unfolding computed
-waiting-counts-hold = refl
-
-pub fetch-les-hold : allHold fetch-les ≡ true
-unfolding computed
-fetch-les-hold = refl
-
-pub fetch-counts-hold : allHold fetch-counts ≡ true
-unfolding computed
-fetch-counts-hold = refl
-
-pub cuts-hold : allHold cuts ≡ true
-unfolding computed
-cuts-hold = refl
-
 pub response-bytes-hold : allHold response-bytes ≡ true
 unfolding computed
 response-bytes-hold = refl
-
-pub response-frames-hold : allHold response-frames ≡ true
-unfolding computed
-response-frames-hold = refl
-
-pub both-modes-hold : allHold both-modes ≡ true
-unfolding computed
-both-modes-hold = refl
-
-pub sound-responses-hold : allHold sound-responses ≡ true
-unfolding computed
-sound-responses-hold = refl
-
-pub response-places-hold : allHold response-places ≡ true
-unfolding computed
-response-places-hold = refl
 
 pub issue-modes-hold : allHold issue-modes ≡ true
 unfolding computed
 issue-modes-hold = refl
 
-pub unsound-credentials-hold : allHold unsound-credentials ≡ true
-unfolding computed
-unsound-credentials-hold = refl
-
-pub unsound-directories-hold : allHold unsound-directories ≡ true
-unfolding computed
-unsound-directories-hold = refl
-
-pub unsound-sessions-hold : allHold unsound-sessions ≡ true
-unfolding computed
-unsound-sessions-hold = refl
-
-pub unsound-responses-hold : allHold unsound-responses ≡ true
-unfolding computed
-unsound-responses-hold = refl
-
-pub sound-cards-hold : allHold sound-cards ≡ true
-unfolding computed
-sound-cards-hold = refl
-
 pub edges-hold : EachHolds edges
 edges-hold =
-    (starred-hold, (framing-hold, (selecting-hold, (binaries-hold, (recording-hold, (variables-hold, (holding-rights-hold, (pins-hold, (devices-hold, (creating-hold, (calls-hold, (credentials-hold, (directories-hold, (sessions-hold, (fetching-hold, (discarding-hold, (modes-hold, (responses-hold, (login-hold, (login-fetched-hold, (class-bytes-hold, (ins-bytes-hold, (frame-lengths-hold, (p-of-files-hold, (p-of-credentials-hold, (sfis-hold, (lc-bytes-hold, (le-bytes-hold, (offsets-hold, (rights-created-hold, (rights-asked-hold, (rights-table-hold, (pin-digits-hold, (pin-tries-hold, (orders-hold, (staying-hold, (cryptograms-hold, (login-of-4-hold, (login-of-8-hold, (note-lengths-hold, (note-reads-hold, (ends-hold, (waiting-counts-hold, (fetch-les-hold, (fetch-counts-hold, (cuts-hold, (response-bytes-hold, (response-frames-hold, (both-modes-hold, (sound-responses-hold, (response-places-hold, (issue-modes-hold, (unsound-credentials-hold, (unsound-directories-hold, (unsound-sessions-hold, (unsound-responses-hold, (sound-cards-hold, tt)))))))))))))))))))))))))))))))))))))))))))))))))))))))))
+    (starred-hold, (framing-hold, (selecting-hold, (binaries-hold, (recording-hold, (variables-hold, (holding-rights-hold, (pins-hold, (devices-hold, (creating-hold, (calls-hold, (credentials-hold, (directories-hold, (sessions-hold, (fetching-hold, (discarding-hold, (modes-hold, (responses-hold, (login-hold, (login-fetched-hold, (class-bytes-hold, (ins-bytes-hold, (frame-lengths-hold, (sfis-hold, (offsets-hold, (rights-created-hold, (rights-asked-hold, (pin-digits-hold, (pin-tries-hold, (orders-hold, (staying-hold, (cryptograms-hold, (login-of-4-hold, (login-of-8-hold, (response-bytes-hold, (issue-modes-hold, tt))))))))))))))))))))))))))))))))))))

@@ -15,7 +15,7 @@ use Rattle.files.specs.Create.{goodContents}
 use Rattle.files.specs.Sound.{soundFile, unusedPlace, sfisDiffer, soundDirectory, partedArea}
 use Rattle.rules.specs.Words.{allOf, same}
 use Rattle.rules.specs.Sound.{goodPin, goodValue, soundValue, soundTries, soundCredential, soundChallenge, soundResponse, soundState, sound}
-use Rattle.digits.specs.Digits.{places, decimal, hexDigit, hexOf, orDash, value}
+use Rattle.digits.specs.Digits.{digitsIn, decimal, hexDigit, hexOf, orDash, value}
 use Rattle.texts.specs.Text.{line, credentialLine, sessionLine, heldOrUsed, fileLine, rows, contents, filesText, credentialLines, text}
 use Rattle.texts.specs.Reading.{skip, pair, hexIn, numberFrom, number, small, triesIn, credentialIn, sessionIn, responseIn, fileIn, pairs, pastRow, rowsIn, behind, filesIn, bytesIn, laid, directoryOf, cardIn, areaIn}
 use Rattle.texts.specs.Calls.{toText, accepted, fromText}
@@ -31,7 +31,7 @@ use Rattle.text_examples.specs.Rows.{table, EachHolds}
 
 -- whether rows hold, by computation: to unfold this is to unfold every definition that a row may need
 computed : List Row → Bool
-unfolding allBelow part over count recordLength size goodShape goodRights used startAt extent seek findFid bytesUsed soundHeld soundUsed partedFile stands past walk parted goodContents soundFile unusedPlace sfisDiffer soundDirectory partedArea allOf same goodPin goodValue soundValue soundTries soundCredential soundChallenge soundResponse soundState sound places decimal hexDigit hexOf orDash value line credentialLine sessionLine heldOrUsed fileLine rows contents filesText credentialLines text skip pair hexIn numberFrom number small triesIn credentialIn sessionIn responseIn fileIn pairs pastRow rowsIn behind filesIn bytesIn laid directoryOf cardIn areaIn toText accepted fromText
+unfolding allBelow part over count recordLength size goodShape goodRights used startAt extent seek findFid bytesUsed soundHeld soundUsed partedFile stands past walk parted goodContents soundFile unusedPlace sfisDiffer soundDirectory partedArea allOf same goodPin goodValue soundValue soundTries soundCredential soundChallenge soundResponse soundState sound digitsIn decimal hexDigit hexOf orDash value line credentialLine sessionLine heldOrUsed fileLine rows contents filesText credentialLines text skip pair hexIn numberFrom number small triesIn credentialIn sessionIn responseIn fileIn pairs pastRow rowsIn behind filesIn bytesIn laid directoryOf cardIn areaIn toText accepted fromText
 computed = allHold
 
 pub documented-hold : allHold documented ≡ true

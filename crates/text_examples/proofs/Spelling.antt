@@ -5,7 +5,7 @@ use mathlib.Core.Bool.{Bool, true, false}
 use mathlib.Core.List.{List, [], _∷_, _++_, append-assoc}
 use mathlib.Core.Path.{_≡_, refl, sym, ap, _∙_}
 use native.Mathlib.Omega.{arith}
-use lib.Dec.{eqb, ltb}
+use lib.Dec.{eqb}
 use lib.ListN.{length, take, drop, length-take, length-drop}
 use borrow.Author.Tests.{eqb-true}
 use Rattle.files.specs.declared.File.{File}
@@ -17,11 +17,14 @@ use Rattle.rules.specs.declared.Credential.{Credential}
 use Rattle.rules.specs.declared.Card.{Card}
 use Rattle.rules.specs.Words.{allOf}
 use Rattle.rules.specs.State.{credential, rightKept, valueOf, challenge, mode, waitCount, waiting}
-use Rattle.digits.specs.Digits.{newline, ended, lastDigit, places, decimal, hexDigit, hexOf, orDash}
+use Rattle.digits.specs.Digits.{newline, ended, lastDigit, decimal, hexDigit, hexOf, orDash}
+use Rattle.digits.proofs.Decimal.{decimal-some}
+use Rattle.digits.proofs.Written.{hexOf-length}
 use Rattle.texts.specs.Text.{line, credentialLine, credentialLines, currentFid, sessionLine, fidBytes, createBytes, heldOrUsed, fileLine, rows, linesFor, contents, filesText, text}
 use Rattle.texts.specs.Laws.{Bytes, FileBytes, CardBytes}
 use Rattle.texts.proofs.Cards.{bytes-nil, bytes-cons, fid-bytes}
-use Rattle.texts.proofs.Contents.{bytes-drop, bytes-take, hexOf-length}
+use Rattle.texts.proofs.Contents.{bytes-drop, bytes-take}
+use Rattle.texts.proofs.Digits.{all-digits}
 use Rattle.texts.proofs.Exact.{accepted-text}
 use Rattle.text_examples.specs.Spelling.{parts, spells, spelt, EachSpelt}
 
@@ -68,12 +71,6 @@ line-on f [] p r h = rw (append-assoc f (newline ∷ []) r) (field 10 r refl f p
 line-on f (g ∷ more) p r h = rw (append-assoc f (9 ∷ line (g ∷ more)) r) (field 9 (line (g ∷ more) ++ r) refl f p (h .0) ∙ line-on g more 9 r (h .1))
 
 -- numbers and bytes
-all-drop : (n : ℕ) (w : List ℕ) → allOf spells w ≡ true → allOf spells (drop n w) ≡ true
-unfolding allOf
-all-drop zero w h = h
-all-drop (suc n) [] h = h
-all-drop (suc n) (x ∷ xs) h = all-drop n xs (both (spells x) (allOf spells xs) h .1)
-
 abbrev last-test : ℕ → Bool
 last-test d = spells (48 + d)
 
@@ -81,24 +78,8 @@ last-spells : (n : ℕ) → spells (lastDigit n) ≡ true
 unfolding allBelow
 last-spells n = below last-test 10 refl (n % 10) (omega arith)
 
-some-places : (n : ℕ) → 1 ≤ places n
-unfolding places
-some-places n =
-    split (λ (x : ℕ). 1 ≤ x) (ltb n 10) (λ _. omega arith)
-    (λ _. split (λ (x : ℕ). 1 ≤ x) (ltb n 100) (λ _. omega arith)
-    (λ _. split (λ (x : ℕ). 1 ≤ x) (ltb n 1000) (λ _. omega arith)
-    (λ _. split (λ (x : ℕ). 1 ≤ x) (ltb n 10000) (λ _. omega arith) (λ _. omega arith))))
-
 decimal-word : (n : ℕ) → Word (decimal n)
-unfolding decimal allOf
-decimal-word n =
-    let five = lastDigit (n / 10000) ∷ lastDigit (n / 1000) ∷ lastDigit (n / 100) ∷ lastDigit (n / 10) ∷ lastDigit n ∷ [] in
-    record {
-      each =
-          all-drop (5 - places n) five
-          (join (last-spells (n / 10000)) (join (last-spells (n / 1000)) (join (last-spells (n / 100)) (join (last-spells (n / 10)) (join (last-spells n) refl)))));
-      some = omega (arith, length-drop (5 - places n) five, some-places n);
-    }
+decimal-word n = record { each = all-digits spells last-spells n; some = decimal-some n }
 
 abbrev digit-test : ℕ → Bool
 digit-test d = spells (hexDigit d)

@@ -14,12 +14,15 @@ use Rattle.text_examples.specs.Table.{Row, swept}
 use Rattle.text_examples.specs.Cards.{credential, session, waits, told, key, holder, card}
 use Rattle.text_examples.specs.Own.{counting, counted, sixteen-digits, digit, digits, fields}
 
--- every number that a card can have in a text, and around the next powers of ten
+-- every number that a card can have in a text, around the next powers of ten, and the last ones of 32 and of 64 bits
 abbrev pub every-number : List Row
 every-number =
     swept 1 (λ o. counted 4096 (λ n d. equal (decimal n) d))
     ∷ swept 1 (λ o. counting 20 9990 (chars "0999") (λ n d. equal (decimal n) d))
     ∷ swept 1 (λ o. counting 20 65530 (chars "03556") (λ n d. equal (decimal n) d))
+    ∷ swept 1 (λ o. counting 20 999999990 (chars "099999999") (λ n d. equal (decimal n) d))
+    ∷ swept 1 (λ o. counting 16 4294967280 (chars "0827694924") (λ n d. equal (decimal n) d))
+    ∷ swept 1 (λ o. counting 16 18446744073709551600 (chars "00615590737044764481") (λ n d. equal (decimal n) d))
     ∷ []
 
 -- every byte, alone and in a row; - for none

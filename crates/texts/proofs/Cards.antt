@@ -161,7 +161,7 @@ file-back f r t =
       skip-number (heldOrUsed f),
       hex-first 2 (fidBytes f) _ r (omega arith) (fid-bytes f (t .bytes)),
       hex-first 5 (createBytes f) _ r (omega arith) (create-bytes f (t .bytes)),
-      number-first (heldOrUsed f) _ r (t .low),
+      number-first (heldOrUsed f) _ r (omega (arith, t .low)),
       small-first (f .newest) _ r (t .bytes .newest),
     )
     (t .back)

@@ -12,6 +12,7 @@ use lib.Seq.{length-take-le, take-add, take-at, drop-at, set-append-seam}
 use borrow.Author.Tests.{le-leb}
 use Rattle.files.proofs.Checks.{join}
 use Rattle.digits.specs.Digits.{newline, ended, hexOf}
+use Rattle.digits.proofs.Written.{hexOf-length}
 use Rattle.files.specs.declared.File.{File}
 use Rattle.files.specs.Types.{size}
 use Rattle.files.specs.Directory.{fileAt, startAt}
@@ -32,12 +33,6 @@ bytes-take zero s h i = omega arith
 bytes-take (suc n) [] h i = omega arith
 bytes-take (suc n) (x ∷ xs) h zero = h 0
 bytes-take (suc n) (x ∷ xs) h (suc i) = bytes-take n xs (λ k. h (suc k)) i
-
--- two digits a byte
-pub hexOf-length : (bs : List ℕ) → length (hexOf bs) ≡ length bs + length bs
-unfolding hexOf
-hexOf-length [] = refl
-hexOf-length (b ∷ bs) = let k = hexOf-length bs in omega arith
 
 pub row-length : (bs : List ℕ) → length (ended newline (hexOf bs)) ≡ length bs + length bs + 1
 row-length bs = omega (arith, length-append (hexOf bs) (newline ∷ []), hexOf-length bs)

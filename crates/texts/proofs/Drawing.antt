@@ -1,22 +1,19 @@
 -- Texts drawn one behind the other.
 -- Assumes nothing.
-use Prim.Native.Nat.{ℕ, zero, suc, _+_, _-_, _/_, _%_, _≤_, _<_, min}
+use Prim.Native.Nat.{ℕ, suc, _+_, _-_, _≤_, _<_, min}
 use mathlib.Core.Bool.{Bool, true, false, cond}
 use mathlib.Core.List.{List, [], _∷_, _++_, append-assoc}
-use mathlib.Core.Path.{_≡_, refl, sym, ap, ap₂, _∙_}
+use mathlib.Core.Path.{_≡_, sym, ap, ap₂, _∙_}
 use mathlib.Core.Logic.{by-cases}
 use native.Mathlib.Decide.{decLe}
 use native.Mathlib.Numerals.{add-one}
 use native.Mathlib.Omega.{arith}
-use lib.ListN.{length, set, getD, take, drop, length-drop, length-set, drop-of-length-le}
-use lib.Seq.{drop-cons, drop-drop, take-all}
-use native.Mathlib.Nat.{zero-add}
-use borrow.Author.Tests.{lt-ltb, le-ltb}
-use Rattle.digits.specs.Digits.{tab, newline, ended, lastDigit, places, decimal, hexDigit, hexByte, hexOf, orDash}
+use lib.ListN.{length, getD, take, drop, length-drop, drop-of-length-le}
+use lib.Seq.{drop-cons, drop-drop}
+use Rattle.digits.specs.Digits.{tab, newline, ended, hexOf}
 use Rattle.files.specs.declared.File.{File}
 use Rattle.files.specs.declared.Directory.{Directory}
 use Rattle.files.specs.Words.{Bounded, isZero}
-use Rattle.files.specs.Part.{over}
 use Rattle.files.specs.State.{blankFile}
 use Rattle.files.specs.Types.{size}
 use Rattle.files.specs.Directory.{file, used}
@@ -24,32 +21,8 @@ use Rattle.card.proofs.Filling.{take-fewer}
 use Rattle.rules.specs.declared.Card.{Card}
 use Rattle.rules.specs.State.{credential}
 use Rattle.texts.specs.Text.{line, credentialLine, credentialLines, currentFid, sessionLine, fileLine, rows, linesFor, contents, filesText, text}
-use Rattle.texts.specs.Page.{Page, page, stroke, draw, Draws}
-use Rattle.texts.specs.Reading.{laid}
-use Rattle.texts.proofs.Contents.{laid-front}
-
-draw-append : (v w : List ℕ) (p : Page) → draw (v ++ w) p ≡ draw w (draw v p)
-unfolding draw
-draw-append [] w p = refl
-draw-append (b ∷ bs) w p = draw-append bs w (stroke b p)
-
-pub draw-none : (p : Page) → draw [] p ≡ p
-unfolding draw
-draw-none p = refl
-
--- one text behind the other
-pub draws-then : (v w : List ℕ) (p q r : Page) → q ≡ draw v p → r ≡ draw w q → r ≡ draw (v ++ w) p
-draws-then v w p q r e f = f ∙ ap (draw w) e ∙ sym (draw-append v w p)
-
--- a byte, where there is room and where there is none
-module _ (out : List ℕ) (at b : ℕ) where
-  pub put-done : at < length out → Draws (b ∷ []) out at (at + 1) (set out at b)
-  unfolding draw stroke
-  put-done h = rw (lt-ltb at (length out) h, add-one at)
-
-  pub put-none : length out ≤ at → Draws (b ∷ []) out at at out
-  unfolding draw stroke
-  put-none h = rw (le-ltb at (length out) h)
+use Rattle.digits.specs.Page.{Page, draw}
+use Rattle.digits.proofs.Drawn.{draw-append, draws-then}
 
 -- a line, field by field
 pub line-more : (f g : List ℕ) (more : List (List ℕ)) (p q r : Page) → q ≡ draw (ended tab f) p → r ≡ draw (line (g ∷ more)) q → r ≡ draw (line (f ∷ g ∷ more)) p
@@ -61,31 +34,9 @@ pub line-last : (f : List ℕ) (p q : Page) → q ≡ draw (ended newline f) p �
 unfolding line
 line-last f p q e = e
 
--- bytes drawn in a loop
-pub all-more : (text : List ℕ) (i : ℕ) (p q : Page) → i < length text → q ≡ draw (getD text i 0 ∷ []) p → draw (drop (i + 1) text) q ≡ draw (drop i text) p
-all-more text i p q h e = rw (drop-cons text i 0 h, add-one i, e) (sym (draw-append (getD text i 0 ∷ []) (drop (suc i) text) p))
-
-pub all-end : (text : List ℕ) (i : ℕ) (p : Page) → length text ≤ i → draw (drop i text) p ≡ p
-unfolding draw
-all-end text i p h = rw (drop-of-length-le text h)
-
-pub hex-more : (bytes : List ℕ) (i x y : ℕ) (p q r : Page) → i < length bytes → x ≡ hexDigit (getD bytes i 0 / 16) → y ≡ hexDigit (getD bytes i 0 % 16)
-    → q ≡ draw (x ∷ []) p → r ≡ draw (y ∷ []) q → draw (hexOf (drop (i + 1) bytes)) r ≡ draw (hexOf (drop i bytes)) p
-unfolding hexOf
-hex-more bytes i x y p q r h hx hy e f =
-    let two : r ≡ draw (hexByte (getD bytes i 0)) p = draws-then (hexDigit (getD bytes i 0 / 16) ∷ []) (hexDigit (getD bytes i 0 % 16) ∷ []) p q r (e ∙ rw hx) (f ∙ rw hy) in
-    rw (drop-cons bytes i 0 h, add-one i, two) (sym (draw-append (hexByte (getD bytes i 0)) (hexOf (drop (suc i) bytes)) p))
-
-pub hex-end : (bytes : List ℕ) (i : ℕ) (p : Page) → length bytes ≤ i → draw (hexOf (drop i bytes)) p ≡ p
-unfolding hexOf draw
-hex-end bytes i p h = rw (drop-of-length-le bytes h)
-
--- the first n bytes
-pub front-as : (v w : List ℕ) (b : ℕ) (p q : Page) → q ≡ draw (ended b (orDash v)) p → v ≡ w → q ≡ draw (ended b (orDash w)) p
-front-as v w b p q e h = e ∙ ap (λ (x : List ℕ). draw (ended b (orDash x)) p) h
-
-pub number-as : (n m b : ℕ) (p q : Page) → q ≡ draw (ended b (decimal n)) p → n ≡ m → q ≡ draw (ended b (decimal m)) p
-number-as n m b p q e h = e ∙ ap (λ (x : ℕ). draw (ended b (decimal x)) p) h
+-- what is written has another name
+pub field-as : {A : Type 0} (spell : A → List ℕ) (x y : A) (b : ℕ) (p q : Page) → q ≡ draw (ended b (spell x)) p → x ≡ y → q ≡ draw (ended b (spell y)) p
+field-as spell x y b p q e h = e ∙ ap (λ z. draw (ended b (spell z)) p) h
 
 fid-front : (z : Bool) (a b n : ℕ) → n ≡ cond z 0 2 → take n (a ∷ b ∷ []) ≡ cond z [] (a ∷ b ∷ [])
 fid-front true a b n e = rw e
@@ -166,18 +117,3 @@ pub card-drawn : (c : Card) (area : List ℕ) (p p₁ p₂ p₃ : Page)
     → p₁ ≡ draw (credentialLines c) p → p₂ ≡ draw (sessionLine c) p₁ → p₃ ≡ draw (filesText (take (used (c .directory)) (c .directory .files)) area) p₂ → p₃ ≡ draw (text c area) p
 unfolding text
 card-drawn c area p p₁ p₂ p₃ e₁ e₂ e₃ = draws-then (credentialLines c) _ p p₁ p₃ e₁ (draws-then (sessionLine c) _ p₁ p₂ p₃ e₂ e₃)
-
--- with room for all of it
-draw-room : (w out : List ℕ) (at : ℕ) → at + length w ≤ length out → draw w (page out at) ≡ page (laid out at w) (at + length w)
-unfolding draw laid stroke
-draw-room [] out at h = let e : at + 0 ≡ at = omega arith in rw e
-draw-room (b ∷ bs) out at h =
-    let e : at + suc (length bs) ≡ suc at + length bs = omega arith in
-    let l : at < length out = omega arith in
-    rw (lt-ltb at (length out) l, e) (draw-room bs (set out at b) (suc at) (omega (arith, length-set out at b)))
-
-pub drawn-over : (w out left : List ℕ) (r : ℕ) → length w ≤ length out → Draws w out 0 r left → (r ≡ length w) × (left ≡ over w out)
-unfolding over
-drawn-over w out left r h d =
-    let q : page left r ≡ page (laid out 0 w) (0 + length w) = d ∙ draw-room w out 0 (omega arith) in
-    (ap (λ (x : Page). x .at) q ∙ zero-add (length w), ap (λ (x : Page). x .out) q ∙ laid-front out w h)

@@ -5,17 +5,19 @@ use mathlib.Core.Bool.{Bool, true, false, cond, _||_}
 use mathlib.Core.List.{List, [], _∷_, _++_}
 use mathlib.Core.Path.{_≡_, refl, _∙_}
 use native.Mathlib.Omega.{arith}
-use lib.Dec.{eqb, leb, ltb}
-use lib.ListN.{length, take, drop, length-take, length-drop, length-append}
-use borrow.Author.Tests.{leb-true, lt-ltb}
-use Rattle.digits.specs.Digits.{tab, newline, places, decimal, orDash}
+use lib.Dec.{eqb, leb}
+use lib.ListN.{length, take, drop, length-take, length-append}
+use borrow.Author.Tests.{leb-true}
+use Rattle.digits.specs.Digits.{tab, newline, decimal, orDash}
+use Rattle.digits.proofs.Decimal.{decimal-length}
+use Rattle.digits.proofs.Written.{hexOf-length}
 use Rattle.files.specs.declared.File.{File}
 use Rattle.files.specs.Words.{isZero}
 use Rattle.files.specs.Types.{isVariable, size}
 use Rattle.files.specs.Record.{bytesUsed}
 use Rattle.files.specs.Directory.{fileAt, startAt}
 use Rattle.files.specs.Sound.{soundFile}
-use Rattle.files.proofs.Checks.{each, split}
+use Rattle.files.proofs.Checks.{each}
 use Rattle.files.proofs.Extents.{used-is}
 use Rattle.files.proofs.Kept.{filed}
 use Rattle.rules.specs.declared.Credential.{Credential}
@@ -26,36 +28,11 @@ use Rattle.rules.specs.Sound.{goodValue, soundValue, goodChallenge, soundChalle
 use Rattle.rules.proofs.Good.{Good, numbered, sound-good, said-short, responded}
 use Rattle.texts.specs.Text.{line, credentialLine, credentialLines, currentFid, sessionLine, fidBytes, createBytes, heldOrUsed, fileLine, contents, filesText, text}
 use Rattle.texts.specs.Laws.{TextFits}
-use Rattle.texts.proofs.Contents.{hexOf-length, contents-text, start-cons}
+use Rattle.texts.proofs.Contents.{contents-text, start-cons}
 use Rattle.texts.proofs.Counts.{few-places, no-places, used-few}
 use Rattle.texts.proofs.Trips.{current-short, place-sound, place-fits, tries-low}
 
 -- fields
-decimal-length : (n : ℕ) → length (decimal n) ≡ 5 - (5 - places n)
-unfolding decimal
-decimal-length n = length-drop (5 - places n) _
-
-three-places : (n : ℕ) → n < 1000 → length (decimal n) ≤ 3
-unfolding places
-three-places n h =
-    let p : places n ≤ 3 =
-    split (λ (x : ℕ). x ≤ 3) (ltb n 10) (λ _. omega arith)
-    (λ _. split (λ (x : ℕ). x ≤ 3) (ltb n 100) (λ _. omega arith) (λ _. rw (lt-ltb n 1000 h) (omega arith))) in
-    omega (arith, decimal-length n, p)
-
-four-places : (n : ℕ) → n < 10000 → length (decimal n) ≤ 4
-unfolding places
-four-places n h =
-    let p : places n ≤ 4 =
-    split (λ (x : ℕ). x ≤ 4) (ltb n 10) (λ _. omega arith)
-    (λ _. split (λ (x : ℕ). x ≤ 4) (ltb n 100) (λ _. omega arith)
-    (λ _. split (λ (x : ℕ). x ≤ 4) (ltb n 1000) (λ _. omega arith) (λ _. rw (lt-ltb n 10000 h) (omega arith)))) in
-    omega (arith, decimal-length n, p)
-
-one-place : (n : ℕ) → n < 10 → length (decimal n) ≤ 1
-unfolding places
-one-place n h = let p : places n ≡ 1 = rw (lt-ltb n 10 h) in omega (arith, decimal-length n, p)
-
 hex-length : (m : ℕ) (bs : List ℕ) → 1 ≤ m → length bs ≤ m → length (orDash bs) ≤ m + m
 unfolding orDash
 hex-length m [] h l = omega arith
@@ -79,8 +56,8 @@ credential-length x h l t =
       more-length (decimal (x .tries .limit)) (decimal (x .tries .left)) [],
       last-length (decimal (x .tries .left)),
       hex-length 16 (valueOf x) (omega arith) h,
-      three-places (x .tries .limit) (omega arith),
-      three-places (x .tries .left) (omega arith),
+      decimal-length 2 (x .tries .limit) (omega arith),
+      decimal-length 2 (x .tries .left) (omega arith),
     )
 
 session-length : (c : Card) → ((w : Which) → rightKept c (numberOf w) ≤ 1) → length (challenge c) ≤ 16 → mode c ≤ 1 → length (waiting c) ≤ responseSize → length (sessionLine c) ≤ 559
@@ -96,12 +73,12 @@ session-length c h l m w =
       more-length (orDash (challenge c)) (decimal (mode c)) (orDash (waiting c) ∷ []),
       more-length (decimal (mode c)) (orDash (waiting c)) [],
       last-length (orDash (waiting c)),
-      one-place (rightKept c 0) (omega (arith, h device)),
-      one-place (rightKept c 1) (omega (arith, h admin)),
-      one-place (rightKept c 2) (omega (arith, h user)),
+      decimal-length 0 (rightKept c 0) (omega (arith, h device)),
+      decimal-length 0 (rightKept c 1) (omega (arith, h admin)),
+      decimal-length 0 (rightKept c 2) (omega (arith, h user)),
       hex-length 2 fid (omega arith) (current-short (c .directory) (c .session .current)),
       hex-length 16 (challenge c) (omega arith) l,
-      one-place (mode c) (omega (arith, m)),
+      decimal-length 0 (mode c) (omega (arith, m)),
       hex-length responseSize (waiting c) (omega arith) w,
     )
 
@@ -113,10 +90,10 @@ counts-length f h l = go (isVariable f) refl
     go : (v : Bool) → isVariable f ≡ v → length (decimal (cond (isVariable f) (bytesUsed f) (f .held))) + length (decimal (f .newest)) ≤ 6
     go true e =
         let p = no-places f h e in
-        rw e (omega (arith, four-places (bytesUsed f) (omega (arith, used-few f h e, l)), one-place (f .newest) (omega (arith, p .1))))
+        rw e (omega (arith, decimal-length 3 (bytesUsed f) (omega (arith, used-few f h e, l)), decimal-length 0 (f .newest) (omega (arith, p .1))))
     go false e =
         let p = few-places f h in
-        rw e (omega (arith, three-places (f .held) (omega (arith, p .0)), three-places (f .newest) (omega (arith, p .1))))
+        rw e (omega (arith, decimal-length 2 (f .held) (omega (arith, p .0)), decimal-length 2 (f .newest) (omega (arith, p .1))))
 
 file-length : (f : File) → soundFile f ≡ true → size f ≤ 4096 → length (fileLine f) ≤ 24
 unfolding fileLine

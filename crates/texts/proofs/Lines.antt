@@ -24,7 +24,7 @@ hex-first n bs fs r h k = first (λ s. hexIn n s ≡ bs) (orDash bs) fs r (λ b 
 pub small-first : (n : ℕ) (fs : List (List ℕ)) (r : List ℕ) → n < 256 → small (line (decimal n ∷ fs) ++ r) ≡ n
 small-first n fs r h = first (λ s. small s ≡ n) (decimal n) fs r (λ b t e. small-back n b t h e)
 
-pub number-first : (n : ℕ) (fs : List (List ℕ)) (r : List ℕ) → n < 4097 → number (line (decimal n ∷ fs) ++ r) ≡ n
+pub number-first : (n : ℕ) (fs : List (List ℕ)) (r : List ℕ) → n < 65536 → number (line (decimal n ∷ fs) ++ r) ≡ n
 number-first n fs r h = first (λ s. number s ≡ n) (decimal n) fs r (λ b t e. number-back n b t h e)
 
 -- on to the next field

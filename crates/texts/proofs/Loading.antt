@@ -29,11 +29,11 @@ use Rattle.rules.specs.Words.{byte, same}
 use Rattle.rules.specs.State.{howMany, responseSize, responseOf, blankCard}
 use Rattle.rules.specs.Sound.{sound}
 use Rattle.texts.specs.Text.{text}
-use Rattle.texts.specs.Page.{Draws}
+use Rattle.digits.specs.Page.{Draws}
 use Rattle.texts.specs.Reading.{skip, skips, hexIn, number, small, triesOf, triesIn, credentialIn, currentIn, rightsIn, sessionIn, responseIn, counted, fileOf, fileIn, filesIn, bytesIn, directoryOf, sessionPart, filesPart, cardIn, areaIn, Fills, LoadsAll, LoadsCard}
 use Rattle.texts.specs.Calls.{accepted, toText, Writes, fromText, Reads}
 use Rattle.texts.specs.Laws.{longest}
-use Rattle.texts.proofs.Drawing.{drawn-over}
+use Rattle.digits.proofs.Drawn.{drawn-over}
 use Rattle.texts.proofs.Contents.{laid-length}
 use Rattle.texts.proofs.Fitting.{text-fits}
 use Rattle.texts.proofs.Exact.{hex-few}

@@ -1,5 +1,4 @@
 // A card written as lines, and read from them: request R-4.
-mod draw; // draw.rt: bytes put down one by one
 mod load; // load.rt: what a text says
 mod scan; // scan.rt: digits and fields read
 mod text; // text.rt: the lines of a card

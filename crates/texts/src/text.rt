@@ -9,16 +9,16 @@ ghost use Rattle.files.specs.Words.{isZero, Bounded};
 ghost use Rattle.files.specs.Directory.{used, fileAt};
 ghost use Rattle.rules.specs.State.{howMany, waitCount};
 ghost use Rattle.texts.specs.Text.{line, credentialLine, credentialLines, sessionLine, heldOrUsed, fileLine, contents, filesText, text};
-ghost use Rattle.texts.specs.Page.{Draws};
-use crate::draw::front_field;
-use crate::draw::hex_field;
-use crate::draw::number_field;
-use crate::draw::put;
-use crate::draw::put_hex;
+ghost use Rattle.digits.specs.Page.{Draws};
 use digits::NEWLINE;
 use digits::TAB;
+use digits::page::hex_field;
+use digits::page::number_field;
+use digits::page::put;
+use digits::page::put_hex;
 use files::Directory;
 use files::File;
+use files::numbers::fewer;
 use files::numbers::two;
 use files::numbers::wide;
 use files::places::file;
@@ -34,14 +34,22 @@ use rules::Response;
 use rules::Session;
 use rules::USER;
 
+// The first n bytes as a field.
+fn front_field(out: &mut [u8], at: usize, bytes: &[u8], n: usize, end: u8) -> usize
+    ensures { λ r. ⌜ Draws (ended end (orDash (take n (now (bytes .entry))))) (now (out .entry)) at r (now (out .exit)) ⌝ }
+{
+    let m = fewer(n, bytes.len());
+    hex_field(out, at, &bytes[..m], end)
+}
+
 // Value, limit, tries.
 fn put_credential(out: &mut [u8], at: usize, x: Credential) -> usize
     ensures { λ r. ⌜ Draws (credentialLine x) (now (out .entry)) at r (now (out .exit)) ⌝ }
 {
     let value = x.value;
     let a = front_field(out, at, &value, wide(x.len), TAB);
-    let b = number_field(out, a, x.tries.limit as u16, TAB);
-    number_field(out, b, x.tries.left as u16, NEWLINE)
+    let b = number_field(out, a, x.tries.limit as u32, TAB);
+    number_field(out, b, x.tries.left as u32, NEWLINE)
 }
 
 // Two bytes of FID, none for no file.
@@ -57,7 +65,7 @@ fn put_right(out: &mut [u8], at: usize, s: Session, n: usize) -> usize
     ensures { λ r. ⌜ Draws (ended tab (decimal (getD (s .rights) n 0))) (now (out .entry)) at r (now (out .exit)) ⌝ }
 {
     let right = s.rights[n];
-    number_field(out, at, right as u16, TAB)
+    number_field(out, at, right as u32, TAB)
 }
 
 fn put_challenge(out: &mut [u8], at: usize, s: Session) -> usize
@@ -73,7 +81,7 @@ fn put_response(out: &mut [u8], at: usize, x: Response) -> usize
 {
     let bytes = x.bytes;
     let n = two(x.count1, x.count2);
-    let a = number_field(out, at, x.mode as u16, TAB);
+    let a = number_field(out, at, x.mode as u32, TAB);
     front_field(out, a, &bytes, n, NEWLINE)
 }
 
@@ -93,13 +101,13 @@ fn put_session(out: &mut [u8], at: usize, card: Card) -> usize
 }
 
 // Records held; of type 2C the bytes used.
-fn held_or_used(f: File) -> u16
+fn held_or_used(f: File) -> u32
     ensures { λ r. ⌜ r ≡ heldOrUsed f ⌝ }
 {
     if f.kind == VARIABLE {
-        return bytes_used(f) as u16;
+        return bytes_used(f) as u32;
     }
-    f.held as u16
+    f.held as u32
 }
 
 // FID, CREATE's five bytes, records held, newest place.
@@ -111,7 +119,7 @@ fn put_file(out: &mut [u8], at: usize, f: File) -> usize
     let a = hex_field(out, at, &fid, TAB);
     let b = hex_field(out, a, &made, TAB);
     let c = number_field(out, b, held_or_used(f), TAB);
-    number_field(out, c, f.newest as u16, NEWLINE)
+    number_field(out, c, f.newest as u32, NEWLINE)
 }
 
 // A line of contents.

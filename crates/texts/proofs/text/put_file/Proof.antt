@@ -1,6 +1,7 @@
 -- `texts::text::put_file` meets its contract. Assumes nothing.
 use Rattle.texts.specs.Text.{fileLine}
-use Rattle.texts.proofs.Drawing.{line-more, line-last, number-as}
+use Rattle.digits.specs.Digits.{decimal}
+use Rattle.texts.proofs.Drawing.{line-more, line-last, field-as}
 use native.Mathlib.Omega.{arith}
 use borrow.Author.Needs.{needs}
 use Rattle.texts.proofs.text.put_file.Statement.{statement}
@@ -35,7 +36,7 @@ same-length c = omega (arith, c .before .before .before .before .before .before 
 
 returns : tie.Need-returns
 unfolding fileLine
-returns c = line-more _ _ _ _ _ _ (c .before .before .before .before .before .before .before .before .before .before .before .before .before .before .before .before .before .hex-field .ensures) (line-more _ _ _ _ _ _ (c .before .before .before .before .before .before .before .before .before .before .before .before .hex-field2 .ensures) (line-more _ _ _ _ _ _ (number-as _ _ _ _ _ (c .before .before .before .before .before .before .before .number-field .ensures) (c .before .before .before .before .before .before .before .before .held-or-used .ensures)) (line-last _ _ _ (c .before .before .number-field2 .ensures))))
+returns c = line-more _ _ _ _ _ _ (c .before .before .before .before .before .before .before .before .before .before .before .before .before .before .before .before .before .hex-field .ensures) (line-more _ _ _ _ _ _ (c .before .before .before .before .before .before .before .before .before .before .before .before .hex-field2 .ensures) (line-more _ _ _ _ _ _ (field-as decimal _ _ _ _ _ (c .before .before .before .before .before .before .before .number-field .ensures) (c .before .before .before .before .before .before .before .before .held-or-used .ensures)) (line-last _ _ _ (c .before .before .number-field2 .ensures))))
 
 pub put-file-spec : {M : Type 1} → statement M
 put-file-spec = tie.close (tie.spec slice-aggregate-hex-field hex-field-requires slice-aggregate-hex-field-2 hex-field-requires-2 held-or-used-requires number-field-requires cast-number-field number-field-requires-2 same-length returns)

@@ -4,7 +4,7 @@ use mathlib.Core.Path.{_≡_, sym, refl, _∙_}
 use lib.ListN.{length, take, drop}
 use Rattle.files.specs.Directory.{used}
 use Rattle.texts.specs.Text.{filesText}
-use Rattle.texts.specs.Page.{page, draw}
+use Rattle.digits.specs.Page.{page, draw}
 use Rattle.texts.proofs.Drawing.{files-begin, files-more, files-end}
 use native.Mathlib.Omega.{arith}
 use Rattle.texts.proofs.text.put_files.Statement.{statement}

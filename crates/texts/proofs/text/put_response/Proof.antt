@@ -1,5 +1,6 @@
 -- `texts::text::put_response` meets its contract. Assumes nothing.
-use Rattle.texts.proofs.Drawing.{line-more, line-last, front-as}
+use Rattle.digits.specs.Digits.{orDash}
+use Rattle.texts.proofs.Drawing.{line-more, line-last, field-as}
 use borrow.Author.Needs.{needs}
 use Rattle.texts.proofs.text.put_response.Statement.{statement}
 use Rattle.texts.proofs.text.put_response.Tie as tie
@@ -23,7 +24,7 @@ same-length : tie.Need-same-length
 same-length c = search needs
 
 returns : tie.Need-returns
-returns c = line-more _ _ _ _ _ _ (c .before .before .before .before .before .before .before .number-field .ensures) (line-last _ _ _ (front-as _ _ _ _ _ (c .before .before .front-field .ensures) (rw (c .before .before .before .before .before .before .before .before .before .before .two .ensures .is))))
+returns c = line-more _ _ _ _ _ _ (c .before .before .before .before .before .before .before .number-field .ensures) (line-last _ _ _ (field-as orDash _ _ _ _ _ (c .before .before .front-field .ensures) (rw (c .before .before .before .before .before .before .before .before .before .before .two .ensures .is))))
 
 pub put-response-spec : {M : Type 1} → statement M
 put-response-spec =

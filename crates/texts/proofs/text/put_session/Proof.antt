@@ -1,6 +1,7 @@
 -- `texts::text::put_session` meets its contract. Assumes nothing.
 use Rattle.texts.specs.Text.{sessionLine}
-use Rattle.texts.proofs.Drawing.{line-more, front-as, current-front}
+use Rattle.digits.specs.Digits.{orDash}
+use Rattle.texts.proofs.Drawing.{line-more, current-front, field-as}
 use native.Mathlib.Omega.{arith}
 use borrow.Author.Needs.{needs}
 use Rattle.texts.proofs.text.put_session.Statement.{statement}
@@ -38,7 +39,7 @@ same-length c = omega (arith, c .before .before .before .before .before .before 
 
 returns : tie.Need-returns
 unfolding sessionLine
-returns c = line-more _ _ _ _ _ _ (c .before .before .before .before .before .before .before .before .before .before .before .before .before .before .before .before .before .before .before .before .before .before .before .put-right .ensures) (line-more _ _ _ _ _ _ (c .before .before .before .before .before .before .before .before .before .before .before .before .before .before .before .before .before .before .before .put-right2 .ensures) (line-more _ _ _ _ _ _ (c .before .before .before .before .before .before .before .before .before .before .before .before .before .before .before .put-right3 .ensures) (line-more _ _ _ _ _ _ (front-as _ _ _ _ _ (c .before .before .before .before .before .before .before .before .before .before .front-field .ensures) (current-front (c .before .before .before .before .before .before .before .before .before .before .before .before .before .before .before .before .before .before .before .before .before .before .before .before .before .before .before .before .before .args .card .directory) (c .before .before .before .before .before .before .before .before .before .before .before .before .before .before .before .before .before .before .before .before .before .before .before .before .before .before .before .before .before .args .card .session .current) _ _ (c .before .before .before .before .before .before .before .before .before .before .before .before .before .before .before .before .before .before .before .before .before .before .before .before .before .before .file .ensures) (c .before .before .before .before .before .before .before .before .before .before .before .before .before .before .before .before .before .before .before .before .before .before .before .before .before .fid-length .ensures .is))) (line-more _ _ _ _ _ _ (c .before .before .before .before .before .before .put-challenge .ensures) (c .before .before .put-response .ensures)))))
+returns c = line-more _ _ _ _ _ _ (c .before .before .before .before .before .before .before .before .before .before .before .before .before .before .before .before .before .before .before .before .before .before .before .put-right .ensures) (line-more _ _ _ _ _ _ (c .before .before .before .before .before .before .before .before .before .before .before .before .before .before .before .before .before .before .before .put-right2 .ensures) (line-more _ _ _ _ _ _ (c .before .before .before .before .before .before .before .before .before .before .before .before .before .before .before .put-right3 .ensures) (line-more _ _ _ _ _ _ (field-as orDash _ _ _ _ _ (c .before .before .before .before .before .before .before .before .before .before .front-field .ensures) (current-front (c .before .before .before .before .before .before .before .before .before .before .before .before .before .before .before .before .before .before .before .before .before .before .before .before .before .before .before .before .before .args .card .directory) (c .before .before .before .before .before .before .before .before .before .before .before .before .before .before .before .before .before .before .before .before .before .before .before .before .before .before .before .before .before .args .card .session .current) _ _ (c .before .before .before .before .before .before .before .before .before .before .before .before .before .before .before .before .before .before .before .before .before .before .before .before .before .before .file .ensures) (c .before .before .before .before .before .before .before .before .before .before .before .before .before .before .before .before .before .before .before .before .before .before .before .before .before .fid-length .ensures .is))) (line-more _ _ _ _ _ _ (c .before .before .before .before .before .before .put-challenge .ensures) (c .before .before .put-response .ensures)))))
 
 pub put-session-spec : {M : Type 1} → statement M
 put-session-spec =

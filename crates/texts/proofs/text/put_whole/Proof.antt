@@ -1,5 +1,5 @@
 -- `texts::text::put_whole` meets its contract. Assumes nothing.
-use Rattle.texts.proofs.Drawing.{draws-then}
+use Rattle.digits.proofs.Drawn.{draws-then}
 use borrow.Author.Needs.{needs}
 use Rattle.texts.proofs.text.put_whole.Statement.{statement}
 use Rattle.texts.proofs.text.put_whole.Tie as tie

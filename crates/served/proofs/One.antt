@@ -1,0 +1,294 @@
+-- No second answer: each condition is decided, by the test that the rules have for it, and each effect says one thing.
+use Prim.Native.Nat.{ℕ, _+_, _-_, _*_, _%_, _≤_, _<_, min}
+use mathlib.Core.Bool.{Bool, true, false, _&&_, _||_}
+use mathlib.Core.List.{List, [], _∷_, List-discrete}
+use mathlib.Core.Logic.{_⊎_, inl, inr, ⊎-elim, by-cases}
+use mathlib.Core.Path.{_≡_, refl, sym, _∙_, subst, ap}
+use native.Mathlib.Decide.{ℕ-discrete}
+use native.Mathlib.Omega.{arith}
+use lib.Dec.{eqb, leb, ltb}
+use lib.ListN.{length, take, drop, getD}
+use borrow.Author.Tests.{eqb-true, eq-eqb, leb-true, le-leb, ltb-true, lt-ltb}
+use Rattle.files.specs.declared.File.{File}
+use Rattle.files.specs.Words.{isZero}
+use Rattle.files.specs.Types.{hasRecords}
+use Rattle.files.specs.Directory.{goodSfi, findFid}
+use Rattle.files.specs.Record.{grows, isRecord, hasRoom}
+use Rattle.files.specs.Create.{goodContents, sfiUnused, room}
+use Rattle.files.specs.State.{newFile}
+use Rattle.files.proofs.Checks.{clash, both, join}
+use Rattle.rules.specs.declared.Card.{Card}
+use Rattle.rules.specs.Words.{allOf, byte}
+use Rattle.rules.specs.State.{mode, waiting}
+use Rattle.rules.specs.Sound.{digit, goodChallenge, sound}
+use Rattle.rules.specs.Frame.{Command, framed}
+use Rattle.rules.specs.Binary.{target, opens, bySfi}
+use Rattle.rules.specs.Record.{goodP2, recordTarget, recordFound}
+use Rattle.rules.specs.Pins.{pinGiven}
+use Rattle.rules.specs.Step.{Stepped}
+use Rattle.rules.proofs.Checks.{one-of, either}
+use Rattle.rules.proofs.Good.{sound-good, responded}
+use Rattle.rules.proofs.Targets.{not-zero, fid-low}
+use Rattle.demands.specs.Held.{fileNo, IsFile, bytesNo, Named, recordsOf, valueNo, rightNo, leftNo, Opens, labelNo, heldOn, binarySfi, recordSfi}
+use Rattle.demands.specs.Ledger.{sizeOf, fidOf}
+use Rattle.demands.proofs.Named.{named-target, target-named, the-fid, found-fid, opens-asked, asked-opens}
+use Rattle.served.specs.Left.{Ask, Says, Left, Refused, Kept, Fetched}
+use Rattle.served.specs.Answers as answers
+use Rattle.served.specs.One.{SameAnswer, OneAnswer}
+use Rattle.served.proofs.View.{held-sound}
+use Rattle.served.proofs.Frames.{some-data}
+use Rattle.served.proofs.Append.{good-p2, p2-good, grows-to, to-grows, lc-to, to-lc, room-to, to-room}
+use Rattle.served.proofs.Records.{has-to, to-has, there-to, to-there}
+use Rattle.served.proofs.Binary.{p-to, to-p}
+use Rattle.served.proofs.Credentials.{digits-to, to-digits, given-to, to-given, le-to, to-le}
+use Rattle.served.proofs.Create as create
+
+no-bytes : (d : List ℕ) → length d ≡ 0 → d ≡ []
+no-bytes [] e = refl
+no-bytes (b ∷ d) e = absurd (omega (arith, e))
+
+-- of two areas, which may be one; R is what is to be shown, and the same answer shows it
+module _ (c : Card) (area other random : List ℕ) (k : Command) (s t : Stepped) (h : sound c area ≡ true) (R : Type 0) (same : SameAnswer s t → R) where
+  -- a file's bytes are asked, and are the same, or R is shown otherwise
+  abbrev pub Alike : ℕ → (File → ℕ) → Type 0
+  Alike sfi right = (n : ℕ) → Named c sfi n → Opens (heldOn c) (right (fileNo c n)) → (bytesNo c area n ≡ bytesNo c other n → R) → R
+
+  -- one word and the same data
+  pub says-same : (sw : ℕ) (d : List ℕ) → Says c sw d s → Says c sw d t → R
+  says-same sw d p q =
+      by-cases (ℕ-discrete (mode c) 0)
+      (λ z. let a = p .at-once z in let b = q .at-once z in same (record { sw-is = a .0 ∙ sym (b .0); bytes-are = a .1 ∙ sym (b .1); waiting-are = a .2 ∙ sym (b .2) }))
+      (λ o. let low = leb-true (mode c) 1 (responded (c .response) (sound-good c area h .response) .mode) in
+      let one : mode c ≡ 1 = omega (arith, o, low) in
+      let a = p .later one in
+      let b = q .later one in
+      let word : s .sw ≡ t .sw =
+      by-cases (ℕ-discrete (length d) 0) (λ z. p .no-data one (no-bytes d z) ∙ sym (q .no-data one (no-bytes d z)))
+      (λ n. let some : 1 ≤ length d = omega (arith, n) in p .some-data one some ∙ sym (q .some-data one some)) in
+      same (record { sw-is = word; bytes-are = a .0 ∙ sym (b .0); waiting-are = a .1 ∙ sym (b .1) }))
+
+  -- a condition that is decided
+  pub ask-same : {A N M : Type 0} {sw : ℕ} (b : Bool) → (b ≡ true → A) → (A → b ≡ true) → Ask (λ w. Refused c area w s) A sw N → Ask (λ w. Refused c other w t) A sw M → (A → N → M → R)
+      → R
+  ask-same true to back p q f = f (to refl) (p .1 (to refl)) (q .1 (to refl))
+  ask-same {sw = sw} false to back p q f =
+      let o : _ → ⊥ = λ a. clash false (back a) refl in says-same sw [] (p .0 o .says) (q .0 o .says)
+
+  -- a file that is named
+  file-same : (x : ℕ) {N M : ℕ → Type 0} → answers.askFile c area random k s x N → answers.askFile c other random k t x M → (Named c x (target c x) → N (target c x) → M (target c x) → R) → R
+  file-same x p q f = go (isZero (target c x)) refl
+    where
+      go : (b : Bool) → isZero (target c x) ≡ b → R
+      go true z =
+          let none : (n : ℕ) → Named c x n → ⊥ = λ n w. omega (arith, eqb-true (target c x) 0 z, named-target c (sound-good c area h) x n w, w .there .first) in
+          says-same 0x6A82 [] (p .0 none .says) (q .0 none .says)
+      go false z = let w = target-named c (sound-good c area h) x (not-zero (target c x) z) in f w (p .1 (target c x) w) (q .1 (target c x) w)
+
+  p-same : {N M : Type 0} {n sw : ℕ} → Ask (λ w. Refused c area w s) (k .p1 * 256 + k .p2 ≡ n) sw N → Ask (λ w. Refused c other w t) (k .p1 * 256 + k .p2 ≡ n) sw M → (N → M → R) → R
+  p-same {n = n} p q f = ask-same (eqb (k .p1 * 256 + k .p2) n) (eqb-true _ _) (eq-eqb _ _) p q (λ a. f)
+
+  case-same : {N M : Type 0} {n sw : ℕ} → Ask (λ w. Refused c area w s) (k .case ≡ n) sw N → Ask (λ w. Refused c other w t) (k .case ≡ n) sw M → (k .case ≡ n → N → M → R) → R
+  case-same {n = n} p q f = ask-same (eqb (k .case) n) (eqb-true _ _) (eq-eqb _ _) p q f
+
+  opens-same : {N M : Type 0} {byte sw : ℕ} → Ask (λ w. Refused c area w s) (Opens (heldOn c) byte) sw N → Ask (λ w. Refused c other w t) (Opens (heldOn c) byte) sw M → (Opens (heldOn c) byte → N → M → R) → R
+  opens-same {byte = byte} p q f = ask-same (opens c byte) (opens-asked c byte) (asked-opens c byte) p q f
+
+  -- case 3 with a fixed Lc
+  lc-same : {N M : Type 0} {n sw : ℕ} → Ask (λ w. Refused c area w s) ((k .case ≡ 3) × (length (k .given) ≡ n)) sw N → Ask (λ w. Refused c other w t) ((k .case ≡ 3) × (length (k .given) ≡ n)) sw M
+      → (N → M → R) → R
+  lc-same {n = n} p q f =
+      ask-same (eqb (k .case) 3 && eqb (length (k .given)) n) (λ b. let e = both (eqb (k .case) 3) (eqb (length (k .given)) n) b in (eqb-true _ _ (e .0), eqb-true _ _ (e .1)))
+      (λ e. join (eq-eqb _ _ (e .0)) (eq-eqb _ _ (e .1))) p q (λ a. f)
+
+  pin-same : {N M : Type 0} {sw : ℕ} → Ask (λ w. Refused c area w s) ((k .case ≡ 3) × (6 ≤ length (k .given)) × (length (k .given) ≤ 16)) sw N
+      → Ask (λ w. Refused c other w t) ((k .case ≡ 3) × (6 ≤ length (k .given)) × (length (k .given) ≤ 16)) sw M → (N → M → R) → R
+  pin-same p q f = ask-same (pinGiven k) (given-to k) (to-given k) p q (λ a. f)
+
+  digits-same : {N M : Type 0} {sw : ℕ} → Ask (λ w. Refused c area w s) (answers.Digits (k .given)) sw N → Ask (λ w. Refused c other w t) (answers.Digits (k .given)) sw M → (N → M → R)
+      → R
+  digits-same p q f = ask-same (allOf digit (k .given)) (digits-to (k .given)) (to-digits (k .given)) p q (λ a. f)
+
+  held-same : (n : ℕ) {N M : Type 0} {sw : ℕ} → Ask (λ w. Refused c area w s) (rightNo c n ≡ 1) sw N → Ask (λ w. Refused c other w t) (rightNo c n ≡ 1) sw M → (N → M → R) → R
+  held-same n p q f = ask-same (eqb (rightNo c n) 1) (eqb-true _ _) (eq-eqb _ _) p q (λ a. f)
+
+  some-same : {N M : Type 0} {n sw : ℕ} → Ask (λ w. Refused c area w s) (1 ≤ n) sw N → Ask (λ w. Refused c other w t) (1 ≤ n) sw M → (N → M → R) → R
+  some-same {n = n} p q f = ask-same (leb 1 n) (leb-true _ _) (le-leb _ _) p q (λ a. f)
+
+  pin-p : {N M : Type 0} {n sw : ℕ} → Ask (λ w. Refused c area w s) ((k .p1 ≡ n) × (k .p2 ≤ 1)) sw N → Ask (λ w. Refused c other w t) ((k .p1 ≡ n) × (k .p2 ≤ 1)) sw M → (N → M → R) → R
+  pin-p {n = n} p q f =
+      ask-same (eqb (k .p1) n && leb (k .p2) 1) (λ b. let e = both (eqb (k .p1) n) (leb (k .p2) 1) b in (eqb-true _ _ (e .0), leb-true _ _ (e .1)))
+      (λ e. join (eq-eqb _ _ (e .0)) (le-leb (k .p2) 1 (e .1))) p q (λ a. f)
+
+  -- right or wrong
+  compared-same : (n : ℕ) (expected : List ℕ) → answers.Compared c area random k s n expected → answers.Compared c other random k t n expected → R
+  compared-same n expected p q =
+      by-cases (List-discrete ℕ-discrete expected (k .given)) (λ e. says-same 0x9000 [] (p .equal e .says) (q .equal e .says))
+      (λ o. says-same (answers.counted (leftNo c n - 1)) [] (p .unequal o .says) (q .unequal o .says))
+
+  queried-same : (n : ℕ) → answers.Queried c area random k s n → answers.Queried c other random k t n → R
+  queried-same n p q =
+      by-cases (ℕ-discrete (rightNo c n) 1) (λ e. says-same 0x9000 [] (p .held e .says) (q .held e .says))
+      (λ o. by-cases (ℕ-discrete (leftNo c n) 0) (λ z. says-same 0x6983 [] (p .blocked o z .says) (q .blocked o z .says))
+      (λ m. let some : 1 ≤ leftNo c n = omega (arith, m) in says-same (answers.counted (leftNo c n)) [] (p .tries o some .says) (q .tries o some .says)))
+
+  -- ---- the credentials
+  pub verify-same : answers.Verify c area random k s → answers.Verify c other random k t → R
+  verify-same p q =
+      pin-p p q (λ p q.
+      ask-same (eqb (k .case) 1 || pinGiven k) (λ b. one-of (eqb (k .case) 1) (pinGiven k) b (λ z. inl (eqb-true _ _ z)) (λ z. inr (given-to k z)))
+      (⊎-elim (λ z. rw (eq-eqb (k .case) 1 z)) (λ z. either (eqb (k .case) 1) (to-given k z))) p q (λ a p q.
+      ⊎-elim (λ one. queried-same (k .p2 + 1) (p .0 one) (q .0 one))
+      (λ g. some-same (p .1 (g .0)) (q .1 (g .0)) (λ p q. digits-same p q (λ p q. compared-same (k .p2 + 1) (valueNo c (k .p2 + 1)) p q))) a))
+
+  pub change-same : answers.ChangePin c area random k s → answers.ChangePin c other random k t → R
+  change-same p q = pin-p p q (λ p q. pin-same p q (λ p q. held-same (k .p2 + 1) p q (λ p q. digits-same p q (λ p q. says-same 0x9000 [] (p .says) (q .says)))))
+
+  pub reload-same : answers.ReloadPin c area random k s → answers.ReloadPin c other random k t → R
+  reload-same p q = p-same p q (λ p q. pin-same p q (λ p q. held-same 1 p q (λ p q. digits-same p q (λ p q. says-same 0x9000 [] (p .says) (q .says)))))
+
+  pub authenticate-same : answers.Authenticate c area random k s → answers.Authenticate c other random k t → R
+  authenticate-same p q = p-same p q (λ p q. lc-same p q (λ p q. some-same p q (λ p q. some-same p q (λ p q. compared-same 0 (answers.cryptogram c area random k s) p q))))
+
+  pub challenge-same : answers.GetChallenge c area random k s → answers.GetChallenge c other random k t → R
+  challenge-same p q =
+      p-same p q (λ p q.
+      ask-same (eqb (k .case) 2 && goodChallenge (k .le)) (λ b. let e = both (eqb (k .case) 2) (goodChallenge (k .le)) b in (eqb-true _ _ (e .0), le-to (k .le) (e .1)))
+      (λ e. join (eq-eqb _ _ (e .0)) (to-le (k .le) (e .1))) p q (λ a p q. says-same 0x9000 _ (p .says) (q .says)))
+
+  -- ---- the files
+  pub select-same : answers.Select c area random k s → answers.Select c other random k t → R
+  select-same p q =
+      p-same p q (λ p q. lc-same p q (λ p q.
+      let fid = answers.fid c area random k s in
+      let n : ℕ = findFid (c .directory) fid in
+      by-cases (ℕ-discrete fid 0x3F00) (λ z. says-same 0x9000 [] (p .root z .says) (q .root z .says))
+      (λ o. by-cases (ℕ-discrete (findFid (c .directory) fid) 0)
+      (λ z. let none : (m : ℕ) → IsFile c m → fidOf (labelNo c m) ≡ fid → ⊥ = λ m w e. omega (arith, z, the-fid c (sound-good c area h) fid m w e, w .first) in
+      says-same 0x6A82 [] (p .none o none .says) (q .none o none .says))
+      (λ m. let some : 1 ≤ findFid (c .directory) fid = omega (arith, m) in
+      let there : IsFile c (findFid (c .directory) fid) = record { first = some; last = fid-low (c .directory) (sound-good c area h .directory) fid } in
+      let e = found-fid c (sound-good c area h) fid some in
+      says-same 0x9000 [] (p .found n there e .says) (q .found n there e .says)))))
+
+  binary-same : (case : ℕ) (right : File → ℕ) {N M : ℕ → Type 0} → answers.askBinary c area random k s case right N → answers.askBinary c other random k t case right M
+      → ((n : ℕ) → Named c (binarySfi k) n → Opens (heldOn c) (right (fileNo c n)) → N n → M n → R) → R
+  binary-same case right p q f =
+      ask-same (ltb (k .p1) 0x80 || bySfi k) (p-to k) (to-p k) p q (λ a p q. case-same p q (λ e p q.
+      let x = binarySfi k in
+      file-same x p q (λ w p q.
+      ask-same (eqb (fileNo c (target c x) .kind) 0x28) (eqb-true _ _) (eq-eqb _ _) p q (λ a p q. opens-same p q (λ held p q.
+      ask-same (ltb (answers.offset c area random k s) (sizeOf (labelNo c (target c x)))) (ltb-true _ _) (lt-ltb _ _) p q (λ a p q. f (target c x) w held p q))))))
+
+  pub read-binary-same : Alike (binarySfi k) (λ f. f .read) → answers.ReadBinary c area random k s → answers.ReadBinary c other random k t → R
+  read-binary-same alike p q =
+      binary-same 2 (λ (f : File). f .read) p q (λ n there held p q.
+      let o = answers.offset c area random k s + k .le in
+      ask-same (eqb (k .le) 256 || leb o (sizeOf (labelNo c n))) (λ b. one-of (eqb (k .le) 256) (leb o (sizeOf (labelNo c n))) b (λ z. inl (eqb-true _ _ z)) (λ z. inr (leb-true _ _ z)))
+      (⊎-elim (λ z. rw (eq-eqb (k .le) 256 z)) (λ z. either (eqb (k .le) 256) (le-leb _ _ z))) p q (λ a p q.
+      alike n there held (λ e.
+      says-same 0x9000 _ (p .says) (subst (λ (b : List ℕ). Says c 0x9000 (take (k .le) (drop (answers.offset c area random k s) b)) t) (sym e) (q .says)))))
+
+  pub update-binary-same : answers.UpdateBinary c area random k s → answers.UpdateBinary c other random k t → R
+  update-binary-same p q =
+      binary-same 3 (λ (f : File). f .write) p q (λ n there held p q.
+      ask-same (leb (answers.offset c area random k s + length (k .given)) (sizeOf (labelNo c n))) (leb-true _ _) (le-leb _ _) p q (λ a p q. says-same 0x9000 [] (p .written .says) (q .written .says)))
+
+  -- record number P1 of a file with these bytes
+  abbrev at-p1 : ℕ → List ℕ → List ℕ
+  at-p1 n b = getD (recordsOf (fileNo c n) b) (k .p1 - 1) []
+
+  -- what is asked from the number on goes by the file's bytes
+  record-same : (case : ℕ) (right : File → ℕ) → Alike (recordSfi k) right → (N M : ℕ → List ℕ → Type 0) → answers.askRecord c area random k s case right (λ n. N n (bytesNo c area n))
+      → answers.askRecord c other random k t case right (λ n. M n (bytesNo c other n)) → ((n : ℕ) (b : List ℕ) → N n b → M n b → R) → R
+  record-same case right alike N M p q f =
+      ask-same (leb 1 (k .p1) && goodP2 4 k) (λ b. let e = both (leb 1 (k .p1)) (goodP2 4 k) b in (leb-true _ _ (e .0), good-p2 4 k (e .1)))
+      (λ e. join (le-leb 1 (k .p1) (e .0)) (p2-good 4 k (e .1))) p q (λ a p q. case-same p q (λ e p q.
+      file-same (recordSfi k) p q (λ w p q.
+      let n : ℕ = recordTarget c k in
+      let file = fileNo c (recordTarget c k) in
+      ask-same (hasRecords file) (has-to file) (to-has file) p q (λ has p q. opens-same p q (λ held p q.
+      alike n w held (λ e.
+      let q-here = subst (λ (b : List ℕ). Ask (λ v. Refused c other v t) (k .p1 ≤ length (recordsOf file b)) 0x6A83 (M n b)) (sym e) q in
+      ask-same (recordFound c area k .there) (there-to c area h k (w .there) has) (to-there c area h k (w .there) has (a .0)) p q-here (λ b p q. f n (bytesNo c area n) p q)))))))
+
+  pub read-record-same : Alike (recordSfi k) (λ f. f .read) → answers.ReadRecord c area random k s → answers.ReadRecord c other random k t → R
+  read-record-same alike p q =
+      record-same 2 (λ (f : File). f .read) alike
+      (λ n b. Ask (λ w. Refused c area w s) ((k .le ≡ 256) ⊎ (k .le ≡ length (at-p1 n b))) (0x6C00 + length (at-p1 n b)) (Left c area 0x9000 (at-p1 n b) n [] s))
+      (λ n b. Ask (λ w. Refused c other w t) ((k .le ≡ 256) ⊎ (k .le ≡ length (at-p1 n b))) (0x6C00 + length (at-p1 n b)) (Left c other 0x9000 (at-p1 n b) n [] t)) p q (λ n b p q.
+      let m = length (at-p1 n b) in
+      ask-same (eqb (k .le) 256 || eqb (k .le) m) (λ y. one-of (eqb (k .le) 256) (eqb (k .le) m) y (λ z. inl (eqb-true _ _ z)) (λ z. inr (eqb-true _ _ z)))
+      (⊎-elim (λ z. rw (eq-eqb (k .le) 256 z)) (λ z. either (eqb (k .le) 256) (eq-eqb _ _ z))) p q (λ a p q. says-same 0x9000 _ (p .says) (q .says)))
+
+  pub update-record-same : Alike (recordSfi k) (λ f. f .write) → answers.UpdateRecord c area random k s → answers.UpdateRecord c other random k t → R
+  update-record-same alike p q =
+      record-same 3 (λ (f : File). f .write) alike
+      (λ n b. Ask (λ w. Refused c area w s) (length (k .given) ≡ length (at-p1 n b)) 0x6700 (answers.RecordUpdated c area random k s n))
+      (λ n b. Ask (λ w. Refused c other w t) (length (k .given) ≡ length (at-p1 n b)) 0x6700 (answers.RecordUpdated c other random k t n)) p q (λ n b p q.
+      ask-same (eqb (length (k .given)) (length (at-p1 n b))) (eqb-true _ _) (eq-eqb _ _) p q (λ a p q. says-same 0x9000 [] (p .written .says) (q .written .says)))
+
+  pub append-same : (k .case ≡ 3 → 1 ≤ length (k .given)) → answers.AppendRecord c area random k s → answers.AppendRecord c other random k t → R
+  append-same some p q =
+      ask-same (isZero (k .p1) && goodP2 0 k) (λ b. let e = both (isZero (k .p1)) (goodP2 0 k) b in (eqb-true _ _ (e .0), good-p2 0 k (e .1)))
+      (λ e. join (eq-eqb _ _ (e .0)) (p2-good 0 k (e .1))) p q (λ a p q. case-same p q (λ three p q.
+      file-same (recordSfi k) p q (λ w p q.
+      let file = fileNo c (recordTarget c k) in
+      let n : ℕ = length (k .given) in
+      ask-same (grows file) (grows-to file) (to-grows file) p q (λ g p q. opens-same p q (λ held p q.
+      ask-same (isRecord file n) (lc-to file n) (to-lc file n g (some three)) p q (λ l p q.
+      ask-same (hasRoom file n) (room-to file n) (to-room file n g (held-sound c area h (recordTarget c k) (w .there)) (to-lc file n g (some three) l)) p q (λ b p q.
+      says-same 0x9000 [] (p .written .says) (q .written .says))))))))
+
+  pub create-same : answers.CreateFile c area random k s → answers.CreateFile c other random k t → R
+  create-same p q =
+      let x : ℕ = (k .p1 * 256 + k .p2) % 32 in
+      let file = newFile (k .p1) (k .p2) (byte (k .given) 0) (byte (k .given) 1) (byte (k .given) 2) (byte (k .given) 3) (byte (k .given) 4) in
+      ask-same (goodSfi ((k .p1 * 256 + k .p2) % 32)) (λ b. let e = both (leb 1 ((k .p1 * 256 + k .p2) % 32)) (leb ((k .p1 * 256 + k .p2) % 32) 30) b in (leb-true _ _ (e .0), leb-true _ _ (e .1)))
+      (λ e. join (le-leb 1 ((k .p1 * 256 + k .p2) % 32) (e .0)) (le-leb ((k .p1 * 256 + k .p2) % 32) 30 (e .1))) p q (λ a p q. lc-same p q (λ p q. held-same 0 p q (λ p q.
+      ask-same (goodContents file) (create.contents-to file) (create.to-contents file) p q (λ a p q.
+      ask-same (sfiUnused (c .directory) ((k .p1 * 256 + k .p2) % 32)) (create.unused-to c area h ((k .p1 * 256 + k .p2) % 32)) (create.to-unused c area h ((k .p1 * 256 + k .p2) % 32)) p q (λ a p q.
+      ask-same (room (c .directory) file) (create.room-to c area h file) (create.to-room c area h file) p q (λ a p q. says-same 0x9000 [] (p .says) (q .says)))))))
+
+  -- ---- GET RESPONSE: refused with all kept, or the next bytes
+  kept-same : {sw : ℕ} → Kept c area sw s → Kept c other sw t → R
+  kept-same p q =
+      same (record { sw-is = p .sw-is ∙ sym (q .sw-is); bytes-are = p .bytes-are ∙ sym (q .bytes-are); waiting-are = ap waiting (p .card-is) ∙ sym (ap waiting (q .card-is)) })
+
+  keep-same : {A N M : Type 0} {sw : ℕ} (b : Bool) → (b ≡ true → A) → (A → b ≡ true) → Ask (λ w. Kept c area w s) A sw N → Ask (λ w. Kept c other w t) A sw M → (N → M → R) → R
+  keep-same true to back p q f = f (p .1 (to refl)) (q .1 (to refl))
+  keep-same false to back p q f = let o : _ → ⊥ = λ a. clash false (back a) refl in kept-same (p .0 o) (q .0 o)
+
+  fetched-same : (n : ℕ) → n ≤ length (waiting c) → Fetched c area n s → Fetched c other n t → R
+  fetched-same n low p q =
+      let word : s .sw ≡ t .sw =
+      by-cases (ℕ-discrete n (length (waiting c))) (λ e. p .none-remain e ∙ sym (q .none-remain e))
+      (λ o. let l : n < length (waiting c) = omega (arith, o, low) in p .some-remain l ∙ sym (q .some-remain l)) in
+      same (record { sw-is = word; bytes-are = p .bytes-are ∙ sym (q .bytes-are); waiting-are = p .waiting-are ∙ sym (q .waiting-are) })
+
+  pub response-same : answers.GetResponse c area random k s → answers.GetResponse c other random k t → R
+  response-same p q =
+      let n = length (waiting c) in
+      ask-same (eqb (mode c) 1) (eqb-true _ _) (eq-eqb _ _) p q (λ a p q.
+      keep-same (eqb (k .p1 * 256 + k .p2) 0x0000) (eqb-true _ _) (eq-eqb _ _) p q (λ p q.
+      keep-same (eqb (k .case) 2) (eqb-true _ _) (eq-eqb _ _) p q (λ p q.
+      keep-same (leb 1 (length (waiting c))) (leb-true _ _) (le-leb _ _) p q (λ p q.
+      keep-same (eqb (k .le) 256 || leb (k .le) n) (λ y. one-of (eqb (k .le) 256) (leb (k .le) n) y (λ z. inl (eqb-true _ _ z)) (λ z. inr (leb-true _ _ z)))
+      (⊎-elim (λ z. rw (eq-eqb (k .le) 256 z)) (λ z. either (eqb (k .le) 256) (le-leb _ _ z))) p q (λ p q.
+      fetched-same (min (k .le) (length (waiting c))) (omega arith) p q)))))
+
+pub one-answer : OneAnswer
+one-answer = record {
+  select = λ c area random cmd s t h. select-same c area area random (framed cmd) s t h (SameAnswer s t) (λ x. x);
+  read-binary = λ c area random cmd s t h. read-binary-same c area area random (framed cmd) s t h (SameAnswer s t) (λ x. x) (λ n w o f. f refl);
+  update-binary = λ c area random cmd s t h. update-binary-same c area area random (framed cmd) s t h (SameAnswer s t) (λ x. x);
+  read-record = λ c area random cmd s t h. read-record-same c area area random (framed cmd) s t h (SameAnswer s t) (λ x. x) (λ n w o f. f refl);
+  update-record = λ c area random cmd s t h. update-record-same c area area random (framed cmd) s t h (SameAnswer s t) (λ x. x) (λ n w o f. f refl);
+  append-record = λ c area random cmd s t h. append-same c area area random (framed cmd) s t h (SameAnswer s t) (λ x. x) (some-data cmd);
+  verify = λ c area random cmd s t h. verify-same c area area random (framed cmd) s t h (SameAnswer s t) (λ x. x);
+  change-pin = λ c area random cmd s t h. change-same c area area random (framed cmd) s t h (SameAnswer s t) (λ x. x);
+  reload-pin = λ c area random cmd s t h. reload-same c area area random (framed cmd) s t h (SameAnswer s t) (λ x. x);
+  authenticate = λ c area random cmd s t h. authenticate-same c area area random (framed cmd) s t h (SameAnswer s t) (λ x. x);
+  get-challenge = λ c area random cmd s t h. challenge-same c area area random (framed cmd) s t h (SameAnswer s t) (λ x. x);
+  create-file = λ c area random cmd s t h. create-same c area area random (framed cmd) s t h (SameAnswer s t) (λ x. x);
+  get-response = λ c area random cmd s t h. response-same c area area random (framed cmd) s t h (SameAnswer s t) (λ x. x);
+}

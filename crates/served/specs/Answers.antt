@@ -1,0 +1,362 @@
+-- Each command answers what the paper says: document 01's "Framing" and "The twelve commands", with R-1, R-2, R-5 and R-6. A command is its conditions in the
+-- paper's order, each with the word of its refusal (ask), and where all of them hold what comes of it. The words are the statement's own, over the state's fields
+-- (Held): no check, effect or list view of the rules is cited.
+use Prim.Native.Nat.{ℕ, _+_, _-_, _*_, _/_, _%_, _≤_, _<_, min}
+use mathlib.Core.Bool.{true, cond}
+use mathlib.Core.List.{List, [], _∷_, _++_}
+use mathlib.Core.Logic.{_⊎_}
+use mathlib.Core.Path.{_≡_}
+use lib.ListN.{length, take, drop, getD, set, replicate}
+use Rattle.cipher.specs.Cipher.{aes128}
+use Rattle.files.specs.declared.File.{File}
+use Rattle.rules.specs.declared.Card.{Card}
+use Rattle.rules.specs.Words.{byte}
+use Rattle.rules.specs.Sound.{sound}
+use Rattle.rules.specs.Frame.{Command, framed}
+use Rattle.rules.specs.Step.{Stepped, step}
+use Rattle.demands.specs.Soundness.{Bytes}
+use Rattle.demands.specs.Held.{fileNo, IsFile, startNo, bytesNo, Named, bytesUsed, recordsNo, valueNo, leftNo, limitNo, rightNo, Opens, labelOf, labelNo, byP1, binarySfi, recordSfi, heldOn}
+use Rattle.demands.specs.Ledger.{Label, labelGiven, sizeOf, sfiOf, fidOf}
+use Rattle.demands.specs.Framing.{Sent}
+use Rattle.served.specs.Left.{mode, waiting, Ask, Says, Challenge, Left, Refused, Written, OneRun, Credited, Kept, Fetched, Stores}
+
+-- type 2A, 2E or 2C has records, and 2E and 2C take new ones
+abbrev pub HasRecords : File → Type 0
+HasRecords f = (f .kind ≡ 0x2A) ⊎ ((f .kind ≡ 0x2E) ⊎ (f .kind ≡ 0x2C))
+
+abbrev pub Grows : File → Type 0
+Grows f = (f .kind ≡ 0x2E) ⊎ (f .kind ≡ 0x2C)
+
+-- contents of a file. Type and size: 28 of 1 to 4,096 bytes, 2C of 2 to 4,096, 2A and 2E of 2 to 254 records of 1 to 178 bytes
+abbrev pub GoodSize : Label → Type 0
+GoodSize x =
+    ((x .kind ≡ 0x28) × (1 ≤ sizeOf x) × (sizeOf x ≤ 4096))
+    ⊎ (((x .kind ≡ 0x2C) × (2 ≤ sizeOf x) × (sizeOf x ≤ 4096))
+    ⊎ (((x .kind ≡ 0x2A) ⊎ (x .kind ≡ 0x2E)) × (2 ≤ x .size1) × (x .size1 ≤ 254) × (1 ≤ x .size2) × (x .size2 ≤ 178)))
+
+-- a rights byte: 0F, or no bit but 8, 7, 2 and 1, and not bit 2 alone
+abbrev pub GoodRight : ℕ → Type 0
+GoodRight b = (b ≡ 0x0F) ⊎ ((b / 4 % 16 ≡ 0) × (b ≡ 0x02 → ⊥))
+
+abbrev pub GoodContents : Label → Type 0
+GoodContents x = GoodSize x × (GoodRight (x .read) × GoodRight (x .write))
+
+-- each byte is 30 to 39
+abbrev pub Digits : List ℕ → Type 0
+Digits d = (i : ℕ) → i < length d → (0x30 ≤ byte d i) × (byte d i ≤ 0x39)
+
+-- a number is one of these
+abbrev pub OneOf : ℕ → List ℕ → Type 0
+OneOf n [] = ⊥
+OneOf n (x ∷ more) = (n ≡ x) ⊎ OneOf n more
+
+-- 63Cx, x the smaller of tries left and 15
+abbrev pub counted : ℕ → ℕ
+counted left = 0x63C0 + min left 15
+
+-- a card and its area, the random input, a command taken apart, and what the step makes of it
+module _ (c : Card) (area random : List ℕ) (k : Command) (s : Stepped) where
+  abbrev pub ask : Type 0 → ℕ → Type 0 → Type 0
+  ask A sw next = Ask (λ w. Refused c area w s) A sw next
+
+  -- a file that the SFI names, 0 the current one (6A82)
+  abbrev pub askFile : ℕ → (ℕ → Type 0) → Type 0
+  askFile sfi next = (((n : ℕ) → Named c sfi n → ⊥) → Refused c area 0x6A82 s) × ((n : ℕ) → Named c sfi n → next n)
+
+  abbrev pub p : ℕ
+  p = k .p1 * 256 + k .p2
+
+  abbrev pub lc : ℕ
+  lc = length (k .given)
+
+  -- ---- Framing: a good frame (6700), class 00 or 80 (6E00), class and instruction together in the list (6D00), where GET RESPONSE stands in mode 1 alone
+  pub record Unlisted : Type 0 where
+    pub of-class-00 : k .cla ≡ 0x00 → OneOf (k .ins) (0xA4 ∷ 0xB0 ∷ 0xD6 ∷ 0xB2 ∷ 0xDC ∷ 0xE2 ∷ 0x20 ∷ 0x82 ∷ 0x24 ∷ 0x2C ∷ 0x84 ∷ []) → ⊥
+    pub get-response : k .cla ≡ 0x00 → k .ins ≡ 0xC0 → mode c ≡ 1 → ⊥
+    pub of-class-80 : k .cla ≡ 0x80 → k .ins ≡ 0xE0 → ⊥
+
+  abbrev pub Unknown : Type 0
+  Unknown = ask (1 ≤ k .case) 0x6700 (ask ((k .cla ≡ 0x00) ⊎ (k .cla ≡ 0x80)) 0x6E00 (Unlisted → Refused c area 0x6D00 s))
+
+  -- ---- SELECT 00 A4
+  abbrev pub fid : ℕ
+  fid = byte (k .given) 0 * 256 + byte (k .given) 1
+
+  -- the FID of a file, or 3F00 (6A82); the file becomes current, 3F00 makes none current
+  pub record Selects : Type 0 where
+    pub none : (fid ≡ 0x3F00 → ⊥) → ((n : ℕ) → IsFile c n → fidOf (labelNo c n) ≡ fid → ⊥) → Refused c area 0x6A82 s
+    pub root : fid ≡ 0x3F00 → Left c area 0x9000 [] 0 [] s
+    pub found : (n : ℕ) → IsFile c n → fidOf (labelNo c n) ≡ fid → Left c area 0x9000 [] n [] s
+
+  abbrev pub Select : Type 0
+  Select = ask (p ≡ 0x0000) 0x6A86 (ask ((k .case ≡ 3) × (lc ≡ 2)) 0x6700 Selects)
+
+  -- ---- READ BINARY 00 B0, UPDATE BINARY 00 D6
+  -- P1 bit 8 clear: P is the offset in the current file; P1 from 81 to 9E: SFI in its low five bits, offset P2
+  abbrev pub BinaryP : Type 0
+  BinaryP = (k .p1 < 0x80) ⊎ ((0x81 ≤ k .p1) × (k .p1 ≤ 0x9E))
+
+  abbrev pub offset : ℕ
+  offset = cond (byP1 k) (k .p2) p
+
+  -- both ask the same but for the case, the right and the length
+  abbrev pub askBinary : ℕ → (File → ℕ) → (ℕ → Type 0) → Type 0
+  askBinary case right next =
+      ask BinaryP 0x6A86
+      (ask (k .case ≡ case) 0x6700
+      (askFile (binarySfi k) (λ n.
+      ask (fileNo c n .kind ≡ 0x28) 0x6981
+      (ask (Opens (heldOn c) (right (fileNo c n))) 0x6982
+      (ask (offset < sizeOf (labelNo c n)) 0x6A84
+      (next n))))))
+
+  -- Le bytes from the offset on; for Le 00, which stands for 256, as many as there are, up to 256
+  abbrev pub ReadBinary : Type 0
+  ReadBinary =
+      askBinary 2 (λ f. f .read) (λ n.
+      ask ((k .le ≡ 256) ⊎ (offset + k .le ≤ sizeOf (labelNo c n))) 0x6700
+      (Left c area 0x9000 (take (k .le) (drop offset (bytesNo c area n))) n [] s))
+
+  -- all the bytes given stand from the offset on, and the file's other bytes stay
+  pub record BinaryUpdated (n : ℕ) : Type 0 where
+    pub written : Written c area n s
+    pub file-is : fileNo (s .card) n ≡ fileNo c n
+    pub bytes-are : Stores (bytesNo c area n) offset (k .given) (bytesNo (s .card) (s .area) n)
+
+  abbrev pub UpdateBinary : Type 0
+  UpdateBinary = askBinary 3 (λ f. f .write) (λ n. ask (offset + lc ≤ sizeOf (labelNo c n)) 0x6700 (BinaryUpdated n))
+
+  -- ---- READ RECORD 00 B2, UPDATE RECORD 00 DC, APPEND RECORD 00 E2
+  -- P2 low bits; upper five SFI, not 31
+  abbrev pub RecordP : ℕ → Type 0
+  RecordP low = (k .p2 % 8 ≡ low) × (recordSfi k ≡ 31 → ⊥)
+
+  -- record number P1 of file n
+  abbrev pub recordP1 : ℕ → List ℕ
+  recordP1 n = getD (recordsNo c area n) (k .p1 - 1) []
+
+  -- the two ask the same but for the case and the right
+  abbrev pub askRecord : ℕ → (File → ℕ) → (ℕ → Type 0) → Type 0
+  askRecord case right next =
+      ask ((1 ≤ k .p1) × RecordP 4) 0x6A86
+      (ask (k .case ≡ case) 0x6700
+      (askFile (recordSfi k) (λ n.
+      ask (HasRecords (fileNo c n)) 0x6981
+      (ask (Opens (heldOn c) (right (fileNo c n))) 0x6982
+      (ask (k .p1 ≤ length (recordsNo c area n)) 0x6A83
+      (next n))))))
+
+  -- Le 00 or the record length, else 6C and that length; 00 is the whole record
+  abbrev pub ReadRecord : Type 0
+  ReadRecord =
+      askRecord 2 (λ f. f .read) (λ n.
+      ask ((k .le ≡ 256) ⊎ (k .le ≡ length (recordP1 n))) (0x6C00 + length (recordP1 n))
+      (Left c area 0x9000 (recordP1 n) n [] s))
+
+  -- the record is replaced, and no other; the file knows what it knew
+  pub record RecordUpdated (n : ℕ) : Type 0 where
+    pub written : Written c area n s
+    pub file-is : fileNo (s .card) n ≡ fileNo c n
+    pub records-are : recordsNo (s .card) (s .area) n ≡ set (recordsNo c area n) (k .p1 - 1) (k .given)
+    pub bytes-are : OneRun (bytesNo c area n) (recordP1 n) (k .given) (bytesNo (s .card) (s .area) n)
+
+  abbrev pub UpdateRecord : Type 0
+  UpdateRecord = askRecord 3 (λ f. f .write) (λ n. ask (lc ≡ length (recordP1 n)) 0x6700 (RecordUpdated n))
+
+  -- Lc the record length, in a 2C file at most 178; the record and its length byte fit in what is left of a 2C file
+  abbrev pub AppendLc : File → Type 0
+  AppendLc f = (f .kind ≡ 0x2E → lc ≡ f .size2) × (f .kind ≡ 0x2C → lc ≤ 178)
+
+  abbrev pub AppendRoom : File → Type 0
+  AppendRoom f = f .kind ≡ 0x2C → bytesUsed f + 1 + lc ≤ sizeOf (labelOf f)
+
+  -- in a 2E file the new record is number 1 and the others move up by one, and in a full file the oldest goes. It takes place 0 in an empty file, else the place
+  -- after the newest; place 0 follows the last
+  pub record CyclicAppended (n : ℕ) : Type 0 where
+    pub not-full : fileNo c n .held < fileNo c n .size1 → recordsNo (s .card) (s .area) n ≡ k .given ∷ recordsNo c area n
+    pub full : fileNo c n .held ≡ fileNo c n .size1 → recordsNo (s .card) (s .area) n ≡ k .given ∷ take (fileNo c n .size1 - 1) (recordsNo c area n)
+    pub in-place-0 : fileNo c n .held ≡ 0 → fileNo (s .card) n .newest ≡ 0
+    pub in-the-next : 1 ≤ fileNo c n .held → fileNo (s .card) n .newest ≡ (fileNo c n .newest + 1) % fileNo c n .size1
+    pub bytes-are : Stores (bytesNo c area n) (fileNo (s .card) n .newest * fileNo c n .size2) (k .given) (bytesNo (s .card) (s .area) n)
+
+  -- in a 2C file it comes after the last, behind its length byte
+  pub record VariableAppended (n : ℕ) : Type 0 where
+    pub after-the-last : recordsNo (s .card) (s .area) n ≡ recordsNo c area n ++ (k .given ∷ [])
+    pub used-are : bytesUsed (fileNo (s .card) n) ≡ bytesUsed (fileNo c n) + 1 + lc
+    pub bytes-are : Stores (bytesNo c area n) (bytesUsed (fileNo c n)) (lc ∷ k .given) (bytesNo (s .card) (s .area) n)
+
+  pub record RecordAppended (n : ℕ) : Type 0 where
+    pub written : Written c area n s
+    pub cyclic : fileNo c n .kind ≡ 0x2E → CyclicAppended n
+    pub variable : fileNo c n .kind ≡ 0x2C → VariableAppended n
+
+  abbrev pub AppendRecord : Type 0
+  AppendRecord =
+      ask ((k .p1 ≡ 0) × RecordP 0) 0x6A86
+      (ask (k .case ≡ 3) 0x6700
+      (askFile (recordSfi k) (λ n.
+      ask (Grows (fileNo c n)) 0x6981
+      (ask (Opens (heldOn c) (fileNo c n .write)) 0x6982
+      (ask (AppendLc (fileNo c n)) 0x6700
+      (ask (AppendRoom (fileNo c n)) 0x6A84
+      (RecordAppended n)))))))
+
+  -- ---- VERIFY 00 20
+  -- P2 00 is the admin PIN, credential 1, and 01 the user PIN, credential 2
+  abbrev pub pin : ℕ
+  pin = k .p2 + 1
+
+  -- case 3 with Lc 06 to 10
+  abbrev pub PinGiven : Type 0
+  PinGiven = (k .case ≡ 3) × (6 ≤ lc) × (lc ≤ 16)
+
+  -- equal in length and bytes restores all tries and holds the right; otherwise tries fall by one and the right is dropped
+  pub record Compared (n : ℕ) (expected : List ℕ) : Type 0 where
+    pub equal : expected ≡ k .given → Credited c area 0x9000 n (valueNo c n) (limitNo c n) 1 s
+    pub unequal : (expected ≡ k .given → ⊥) → Credited c area (counted (leftNo c n - 1)) n (valueNo c n) (leftNo c n - 1) 0 s
+
+  -- without data: 9000 when held, else 6983 at no tries, else 63Cx; nothing changes but the challenge and what waits, as after any command
+  pub record Queried (n : ℕ) : Type 0 where
+    pub held : rightNo c n ≡ 1 → Left c area 0x9000 [] (c .session .current) [] s
+    pub blocked : (rightNo c n ≡ 1 → ⊥) → leftNo c n ≡ 0 → Refused c area 0x6983 s
+    pub tries : (rightNo c n ≡ 1 → ⊥) → 1 ≤ leftNo c n → Refused c area (counted (leftNo c n)) s
+
+  abbrev pub Verify : Type 0
+  Verify =
+      ask ((k .p1 ≡ 0x00) × (k .p2 ≤ 0x01)) 0x6A86
+      (ask ((k .case ≡ 1) ⊎ PinGiven) 0x6700
+      ((k .case ≡ 1 → Queried pin)
+      × (k .case ≡ 3 → ask (1 ≤ leftNo c pin) 0x6983 (ask (Digits (k .given)) 0x6A80 (Compared pin (valueNo c pin))))))
+
+  -- ---- EXTERNAL AUTHENTICATE 00 82
+  -- AES-128 under the device key, credential 0, of the challenge filled with 00 to 16 bytes
+  abbrev pub cryptogram : List ℕ
+  cryptogram = aes128 (valueNo c 0) (take (c .session .len) (c .session .challenge) ++ replicate (16 - c .session .len) 0)
+
+  abbrev pub Authenticate : Type 0
+  Authenticate =
+      ask (p ≡ 0x0000) 0x6A86
+      (ask ((k .case ≡ 3) × (lc ≡ 16)) 0x6700
+      (ask (1 ≤ leftNo c 0) 0x6983
+      (ask (1 ≤ c .session .len) 0x6984
+      (Compared 0 cryptogram))))
+
+  -- ---- CHANGE PIN 00 24: the new PIN stands; tries and right stay
+  abbrev pub ChangePin : Type 0
+  ChangePin =
+      ask ((k .p1 ≡ 0x01) × (k .p2 ≤ 0x01)) 0x6A86
+      (ask PinGiven 0x6700
+      (ask (rightNo c pin ≡ 1) 0x6982
+      (ask (Digits (k .given)) 0x6A80
+      (Credited c area 0x9000 pin (k .given) (leftNo c pin) (rightNo c pin) s))))
+
+  -- ---- RELOAD PIN 00 2C: the admin right in the right's place; sets the user PIN, full tries, user right dropped
+  abbrev pub ReloadPin : Type 0
+  ReloadPin =
+      ask (p ≡ 0x0201) 0x6A86
+      (ask PinGiven 0x6700
+      (ask (rightNo c 1 ≡ 1) 0x6982
+      (ask (Digits (k .given)) 0x6A80
+      (Credited c area 0x9000 2 (k .given) (limitNo c 2) 0 s))))
+
+  -- ---- CREATE FILE 80 E0: P is the FID; the data are type, two size bytes, read and write right (labelGiven)
+  -- the new file comes after the last
+  abbrev pub newNo : ℕ
+  newNo = c .directory .count + 1
+
+  -- it is what was given, holds no record, its bytes are 00, and it becomes current; all else stays, every other file and each byte outside of this one
+  pub record FileMade : Type 0 where
+    pub says : Says c 0x9000 [] s
+    pub credentials-are : s .card .credentials ≡ c .credentials
+    pub rights-are : s .card .session .rights ≡ c .session .rights
+    pub challenge-is : Challenge (s .card) []
+    pub one-more : s .card .directory .count ≡ newNo
+    pub current-is : s .card .session .current ≡ newNo
+    pub label-is : labelNo (s .card) newNo ≡ labelGiven k
+    pub none-held : (fileNo (s .card) newNo .held ≡ 0) × (fileNo (s .card) newNo .newest ≡ 0)
+    pub none-used : bytesUsed (fileNo (s .card) newNo) ≡ 0
+    pub bytes-are : bytesNo (s .card) (s .area) newNo ≡ replicate (sizeOf (labelGiven k)) 0
+    pub others : (n : ℕ) → IsFile c n → (fileNo (s .card) n ≡ fileNo c n) × (bytesNo (s .card) (s .area) n ≡ bytesNo c area n)
+    pub outside : (j : ℕ) → (j < startNo c newNo) ⊎ (startNo c newNo + sizeOf (labelGiven k) ≤ j) → byte (s .area) j ≡ byte area j
+
+  abbrev pub CreateFile : Type 0
+  CreateFile =
+      ask ((1 ≤ p % 32) × (p % 32 ≤ 30)) 0x6A86
+      (ask ((k .case ≡ 3) × (lc ≡ 5)) 0x6700
+      (ask (rightNo c 0 ≡ 1) 0x6982
+      (ask (GoodContents (labelGiven k)) 0x6A80
+      (ask ((n : ℕ) → IsFile c n → sfiOf (labelNo c n) ≡ p % 32 → ⊥) 0x6986
+      (ask ((c .directory .count < 16) × (startNo c newNo + sizeOf (labelGiven k) ≤ 4096)) 0x6A84
+      FileMade)))))
+
+  -- ---- GET CHALLENGE 00 84: it replies and stores the first Le bytes of the random input
+  abbrev pub GetChallenge : Type 0
+  GetChallenge =
+      ask (p ≡ 0x0000) 0x6A86
+      (ask ((k .case ≡ 2) × ((k .le ≡ 4) ⊎ ((k .le ≡ 8) ⊎ (k .le ≡ 16)))) 0x6700
+      (Left c area 0x9000 (take (k .le) random) (c .session .current) (take (k .le) random) s))
+
+  -- ---- GET RESPONSE 00 C0 (R-6): 6D00 in mode 0. In mode 1 P 0000 (6A86); case 2 (6700); something waits (6985); Le at most as much, 00 all that wait (6C and
+  -- the count), each refused with all kept. Then the next Le bytes
+  abbrev pub keeping : Type 0 → ℕ → Type 0 → Type 0
+  keeping A sw next = Ask (λ w. Kept c area w s) A sw next
+
+  abbrev pub GetResponse : Type 0
+  GetResponse =
+      ask (mode c ≡ 1) 0x6D00
+      (keeping (p ≡ 0x0000) 0x6A86
+      (keeping (k .case ≡ 2) 0x6700
+      (keeping (1 ≤ length (waiting c)) 0x6985
+      (keeping ((k .le ≡ 256) ⊎ (k .le ≤ length (waiting c))) (0x6C00 + length (waiting c))
+      (Fetched c area (min (k .le) (length (waiting c))) s)))))
+
+-- ---- the statements: of any sound card and area, any random input and any command with these class and instruction bytes, in a good frame
+abbrev pub Answers : ℕ → ℕ → (Card → List ℕ → List ℕ → Command → Stepped → Type 0) → Type 0
+Answers cla ins Paper =
+    (c : Card) (area cmd random : List ℕ) → sound c area ≡ true → length area ≡ 4096 → length random ≡ 16 → Bytes cmd → Sent cla ins cmd
+    → Paper c area random (framed cmd) (step c area cmd random)
+
+-- and of any command at all
+abbrev pub UnknownAnswers : Type 0
+UnknownAnswers =
+    (c : Card) (area cmd random : List ℕ) → sound c area ≡ true → length area ≡ 4096 → length random ≡ 16 → Bytes cmd
+    → Unknown c area random (framed cmd) (step c area cmd random)
+
+abbrev pub SelectAnswers : Type 0
+SelectAnswers = Answers 0x00 0xA4 Select
+
+abbrev pub ReadBinaryAnswers : Type 0
+ReadBinaryAnswers = Answers 0x00 0xB0 ReadBinary
+
+abbrev pub UpdateBinaryAnswers : Type 0
+UpdateBinaryAnswers = Answers 0x00 0xD6 UpdateBinary
+
+abbrev pub ReadRecordAnswers : Type 0
+ReadRecordAnswers = Answers 0x00 0xB2 ReadRecord
+
+abbrev pub UpdateRecordAnswers : Type 0
+UpdateRecordAnswers = Answers 0x00 0xDC UpdateRecord
+
+abbrev pub AppendRecordAnswers : Type 0
+AppendRecordAnswers = Answers 0x00 0xE2 AppendRecord
+
+abbrev pub VerifyAnswers : Type 0
+VerifyAnswers = Answers 0x00 0x20 Verify
+
+abbrev pub AuthenticateAnswers : Type 0
+AuthenticateAnswers = Answers 0x00 0x82 Authenticate
+
+abbrev pub ChangePinAnswers : Type 0
+ChangePinAnswers = Answers 0x00 0x24 ChangePin
+
+abbrev pub ReloadPinAnswers : Type 0
+ReloadPinAnswers = Answers 0x00 0x2C ReloadPin
+
+abbrev pub CreateFileAnswers : Type 0
+CreateFileAnswers = Answers 0x80 0xE0 CreateFile
+
+abbrev pub GetChallengeAnswers : Type 0
+GetChallengeAnswers = Answers 0x00 0x84 GetChallenge
+
+abbrev pub GetResponseAnswers : Type 0
+GetResponseAnswers = Answers 0x00 0xC0 GetResponse

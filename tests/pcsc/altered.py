@@ -1,0 +1,102 @@
+#!/usr/bin/env python3
+"""Runs tools/alarms with some of it altered: altered.py ALTERATIONS WORDS..., where ALTERATIONS is JSON.
+
+ANSWER_SECONDS, CARD_SECONDS: in place of its own.
+readers: with a library in place of libpcsclite that has these readers, a list of names in hex and states. No card is real then.
+seeds: first and last. It is run once for each, on a card that answers at random; a line of output tells each status.
+slow: seconds that such a card takes for each answer; it has alarms without end then.
+"""
+import importlib.machinery
+import importlib.util
+import json
+import os
+import random
+import sys
+import time
+
+TOOL = os.path.join(os.path.dirname(os.path.dirname(os.path.dirname(os.path.abspath(__file__)))), "tools", "alarms")
+WORDS = ["6108", "6100", "6982", "63C3", "6A83", "6A82", "6983", "6F00", "6C08", "1234"]
+
+
+def tool():
+    sys.dont_write_bytecode = True  # it would stand beside the tool
+    loader = importlib.machinery.SourceFileLoader("alarms", TOOL)
+    module = importlib.util.module_from_spec(importlib.util.spec_from_loader("alarms", loader))
+    loader.exec_module(module)
+    return module
+
+
+class Library:
+    """The calls of libpcsclite that tools/alarms makes."""
+
+    def __init__(self, readers, answer):
+        self.readers = [(bytes.fromhex(name), state) for name, state in readers]
+        self.answer = answer
+
+    def SCardEstablishContext(self, *_):
+        return 0
+
+    def SCardReleaseContext(self, *_):
+        return 0
+
+    def SCardListReaders(self, _, __, room, length):
+        names = b"".join(name + b"\0" for name, _ in self.readers) + b"\0"
+        room[: len(names)] = names
+        length._obj.value = len(names)
+        return 0
+
+    def SCardGetStatusChange(self, _, __, states, ___):
+        for state, (_, event) in zip(states, self.readers):
+            state.event = event
+        return 0
+
+    def SCardConnect(self, *_):
+        return 0
+
+    def SCardDisconnect(self, *_):
+        return 0
+
+    def SCardTransmit(self, _, __, command, ___, ____, room, length):
+        answer = self.answer(command)
+        room[: len(answer)] = answer
+        length._obj.value = len(answer)
+        return 0
+
+
+def at_random(seed):
+    """A card that answers anything, of a few status words. As with vpcd the call never comes back where the answer has no byte."""
+    chance = random.Random(seed)
+    words = ["9000", *chance.sample(WORDS, 2)]
+
+    def answer(_):
+        data = chance.randbytes(chance.choice([0, 8, 8, 8, 9, 256]))
+        answer = data + bytes.fromhex(chance.choice(words))
+        answer = chance.choice([answer] * 20 + [b"", answer[:1]])
+        while not answer:
+            time.sleep(60)
+        return answer
+
+    return answer
+
+
+def slowly(seconds):
+    def answer(command):
+        time.sleep(seconds)
+        return b"\x90\x00" if command[1] == 0xA4 else bytes.fromhex(f"{1000 - command[2]:08X}010200039000")
+
+    return answer
+
+
+alterations = json.loads(sys.argv[1])
+alarms = tool()
+sys.argv = [TOOL, *sys.argv[2:]]
+for name in ("ANSWER_SECONDS", "CARD_SECONDS"):
+    setattr(alarms, name, alterations.get(name, getattr(alarms, name)))
+if "seeds" in alterations:
+    for seed in range(*alterations["seeds"]):
+        alarms.ctypes.CDLL = lambda _: Library(alterations["readers"], at_random(seed))
+        print(f"seed {seed}: status {alarms.main()}", flush=True)
+    sys.exit()
+if "readers" in alterations:
+    alarms.ctypes.CDLL = lambda _: Library(alterations["readers"], slowly(alterations.get("slow", 0)))
+sys.exit(alarms.main())
