@@ -238,23 +238,30 @@ def shown(terminal):
     return termios.tcgetattr(terminal.terminal)[3] & termios.ECHO != 0
 
 
-def stopped_and_continued():
-    """Ctrl-Z and fg, in a shell: what is typed then is not shown either."""
+# Until the shell has seen that the tool waits in the background to set the terminal's modes
+BACKGROUND = 'bg; until [ -n "$(jobs -s)" ]; do sleep 0.1; done; fg'
+TYPED_AT_ONCE = "python3 tests/pcsc/altered.py '" + json.dumps({"typed_at": 3}) + "'"
+
+
+def stopped_and_continued(tool):
+    """Ctrl-Z and fg, in a shell: what is typed then is not shown either, and not dropped, however soon behind the prompt it comes."""
     terminal = Terminal("env", "TERM=dumb", "PS1=> ", "bash", "--norc", "--noprofile", "-i")
     terminal.wait_for("^> $")
-    terminal.type("tools/alarms")
+    terminal.type(tool)
     terminal.wait_for(PROMPT)
-    for back in ("fg", "bg; sleep 0.2; fg"):
+    for back in ("fg", BACKGROUND):
         os.write(terminal.terminal, b"12\x1a")  # 12, and Ctrl-Z
         terminal.wait_for("Stopped")
+        terminal.wait_for("^> $")
         terminal.type(back)
         terminal.wait_for(PROMPT)
-        check(f"Ctrl-Z and {back}: not shown", not shown(terminal))
+        check(f"{tool}, Ctrl-Z and {back}: not shown", not shown(terminal))
     terminal.type("123456")
     terminal.wait_for(gone(2))
+    terminal.wait_for("^> $")
     terminal.type("exit")
     terminal.end()
-    check("Ctrl-Z and fg: the alarms", BOX in terminal.text and "123456" not in terminal.text, terminal.text)
+    check(f"{tool}, Ctrl-Z and fg: the alarms", BOX in terminal.text and "123456" not in terminal.text, terminal.text)
 
 
 def held_and_released():
@@ -306,7 +313,8 @@ def typed_in_pieces():
 
 def terminals():
     with box_card(0):
-        stopped_and_continued()
+        stopped_and_continued("tools/alarms")
+        stopped_and_continued(TYPED_AT_ONCE)
         held_and_released()
         ended_at_prompt()
         typed_in_pieces()

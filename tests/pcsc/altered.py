@@ -2,15 +2,18 @@
 """Runs tools/alarms with some of it altered: altered.py ALTERATIONS WORDS..., where ALTERATIONS is JSON.
 
 ANSWER_SECONDS, CARD_SECONDS: in place of its own.
+typed_at: the number of a prompt; behind that one it goes on only once a line is typed.
 readers: with a library in place of libpcsclite that has these readers, a list of names in hex and states. No card is real then.
 seeds: first and last. It is run once for each, on a card that answers at random; a line of output tells each status.
 slow: seconds that such a card takes for each answer; it has alarms without end then.
 """
 import importlib.machinery
 import importlib.util
+import itertools
 import json
 import os
 import random
+import select
 import sys
 import time
 
@@ -24,6 +27,19 @@ def tool():
     module = importlib.util.module_from_spec(importlib.util.spec_from_loader("alarms", loader))
     loader.exec_module(module)
     return module
+
+
+def wait_at(prompt):
+    write, prompts = os.write, itertools.count(1)
+
+    def write_and_wait(file, data):
+        wait = data.endswith(b"): ") and next(prompts) == prompt
+        written = write(file, data)
+        if wait:
+            select.select([file], [], [])
+        return written
+
+    os.write = write_and_wait
 
 
 class Library:
@@ -92,6 +108,8 @@ alarms = tool()
 sys.argv = [TOOL, *sys.argv[2:]]
 for name in ("ANSWER_SECONDS", "CARD_SECONDS"):
     setattr(alarms, name, alterations.get(name, getattr(alarms, name)))
+if "typed_at" in alterations:
+    wait_at(alterations["typed_at"])
 if "seeds" in alterations:
     for seed in range(*alterations["seeds"]):
         alarms.ctypes.CDLL = lambda _: Library(alterations["readers"], at_random(seed))
