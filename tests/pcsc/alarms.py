@@ -1,6 +1,7 @@
 #!/usr/bin/env python3
 """tools/alarms with cards in the virtual reader. What it does without one is in tests/alarms."""
 import contextlib
+import ctypes
 import json
 import os
 import signal
@@ -69,9 +70,9 @@ def box_card(mode):
     return scripted(issue_line(mode) + "\n" + rest)
 
 
-def alarms(*words, pin=None, tool=("tools/alarms",)):
+def alarms(*words, pin=None):
     """Status, output and errors. pin comes on standard input."""
-    words = [*tool, *words] + ([] if pin is None else ["--pin-from", "-"])
+    words = ["tools/alarms", *words] + ([] if pin is None else ["--pin-from", "-"])
     ended = subprocess.run(words, input=pin or "", capture_output=True, text=True, timeout=SECONDS, cwd=ROOT)
     return ended.returncode, ended.stdout, ended.stderr
 
@@ -389,6 +390,22 @@ def mute():
 # ---- cards that fail while they are read
 
 
+class ReaderState(ctypes.Structure):
+    """As pcsclite.h has it."""
+
+    _fields_ = [("reader", ctypes.c_char_p), ("user_data", ctypes.c_void_p), ("current", ctypes.c_ulong), ("event", ctypes.c_ulong),
+                ("atr_length", ctypes.c_ulong), ("atr", ctypes.c_ubyte * 33)]
+
+
+def changes():
+    """How often pcscd has looked and seen that a card had come to the first slot, or was gone from it."""
+    library, context, state = ctypes.CDLL("libpcsclite.so.1"), ctypes.c_long(), ReaderState(reader=READERS[0].encode())
+    library.SCardEstablishContext(ctypes.c_ulong(2), None, None, ctypes.byref(context))
+    library.SCardGetStatusChange(context, ctypes.c_ulong(0), ctypes.byref(state), ctypes.c_ulong(1))
+    library.SCardReleaseContext(context)
+    return state.event >> 16
+
+
 @contextlib.contextmanager
 def made_up(answer, atr=bytes.fromhex("3B8A8131FE45807116564C494D50455439"), present=card_present, at_reset=lambda: None):
     """A card of this test's own in the virtual reader. answer: gives its answer to a command; None where it is taken out. present:
@@ -417,6 +434,7 @@ def made_up(answer, atr=bytes.fromhex("3B8A8131FE45807116564C494D50455439"), pre
         served.start()
         try:
             wait_until(present, "a card in the reader")
+            before = changes()
             yield
         finally:
             with contextlib.suppress(OSError):  # where it is taken out already
@@ -424,7 +442,7 @@ def made_up(answer, atr=bytes.fromhex("3B8A8131FE45807116564C494D50455439"), pre
             served.join(SECONDS)
     # Of a card that it could not reset pcscd says at once that it is not there, but looks for it only every 0.4 s, and does not
     # see another one that is put in before.
-    time.sleep(1)
+    wait_until(lambda: changes() != before, "pcscd's look for the card")
     wait_until(lambda: not card_present(), "the card's removal")
 
 
@@ -471,8 +489,7 @@ def failing_fetch():
 
 
 def unanswered():
-    """An answer without a byte: vpcd waits on for it, and so would whoever asked. It is given up, here after 3 seconds."""
-    tool = "python3", "tests/pcsc/altered.py", json.dumps({"ANSWER_SECONDS": 3})
+    """An answer without a byte: vpcd waits on for it, and so would whoever asked. It is given up."""
     says = "alarms: the card or its reader takes too long to answer; take the card out, put it in again and start again\n"
     reads = []
 
@@ -481,27 +498,29 @@ def unanswered():
         return bytes.fromhex({0xA4: "9000", 0xB2: "0000000201020003" "9000"}[command[1]]) if len(reads) < 4 else b""
 
     with made_up(card_answers):
-        got = alarms(tool=tool)
+        got = alarms()
     check("an answer without a byte", got == (1, table((2, 1, 2, 3)) + INCOMPLETE, says), got)
 
 
 def stopped_while_reading():
     """Ctrl-C while the card does not answer yet, or never will: it ends at once, and pcscd resets the card once it has answered."""
+    longer = 3 * SECONDS  # than it is waited for here, so that it does not give the card up before
+    patient = ["python3", "tests/pcsc/altered.py", json.dumps({"ANSWER_SECONDS": longer, "CARD_SECONDS": longer})]
     for name, reply, comes_back in (("yet", bytes.fromhex("9000"), True), ("any more", b"", False)):
         asked, stopped, forgot = threading.Event(), threading.Event(), threading.Event()
 
         def card_answers(_):
             forgot.clear()
             asked.set()
-            stopped.wait(SECONDS)
+            stopped.wait(longer)
             return reply
 
         with made_up(card_answers, at_reset=forgot.set):
-            tool = subprocess.Popen(["tools/alarms"], stdin=subprocess.DEVNULL, stderr=subprocess.PIPE, text=True)
+            tool = subprocess.Popen(patient, stdin=subprocess.DEVNULL, stderr=subprocess.PIPE, text=True)
             try:
                 asked.wait(SECONDS)
                 tool.send_signal(signal.SIGINT)
-                said = tool.communicate(timeout=SECONDS / 4)[1]  # sooner than it gives the card up
+                said = tool.communicate(timeout=SECONDS)[1]
             finally:
                 tool.kill()
                 stopped.set()

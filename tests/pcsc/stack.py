@@ -18,7 +18,10 @@ X86 = os.path.join(ROOT, "tools", "x86", "run")  # runs the reader's program on 
 READER = os.path.join(ROOT, "target", "reader", "limpet-reader")
 UNSERVED = os.path.join(ROOT, "target", "reader", "unserved")  # the same over unserved.c
 PORT = 35963  # vpcd's, for the first of its slots
-SECONDS = 20  # how long anything may take before it counts as not coming
+SECONDS = 120  # how long anything may take before it counts as not coming, however slow and busy the machine is
+BEFORE_WORD = 3  # seconds for which the reader waits for vpcd before it says this
+NOT_TAKEN = ("limpet-reader: vpcd has not taken the card yet: is another card in this reader? "
+             "End its reader/run, or give this one another port with --port\n")
 
 KEY, ADMIN_PIN, USER_PIN = "000102030405060708090A0B0C0D0E0F", "87654321", "123456"
 ISSUE_WORDS = [KEY, "128", ADMIN_PIN, "5", USER_PIN, "3"]  # without a mode, which is mode 0
@@ -75,6 +78,7 @@ class Reader:
 
     def __init__(self, words, program=READER):
         self.log = tempfile.NamedTemporaryFile(mode="w+", prefix="limpet-reader-")
+        self.begun = time.monotonic()
         self.process = subprocess.Popen([X86, program, *words], stderr=self.log, cwd=ROOT)
 
     def said(self):
@@ -100,6 +104,12 @@ class Reader:
             self.process.terminate()
         self.process.wait(SECONDS)
         self.log.close()
+
+
+def as_if_at_once(said, begun):
+    """What the reader said that was started then and has been spoken to: without what it adds where that was not soon."""
+    late = time.monotonic() - begun >= BEFORE_WORD
+    return said.replace(NOT_TAKEN, "").replace("in the reader now, on", "in the reader on") if late else said
 
 
 def card_present(slot=0):

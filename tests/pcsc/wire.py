@@ -14,8 +14,8 @@ import time
 from unittest import mock
 
 from mounts import left_out, mounted
-from stack import (ADMIN_PIN, ISSUE_WORDS, KEY, READER, ROOT, SECONDS, UNSERVED, USER_PIN, X86, Reader, check, end, issue_line,
-                   wait_until)
+from stack import (ADMIN_PIN, BEFORE_WORD, ISSUE_WORDS, KEY, NOT_TAKEN, READER, ROOT, SECONDS, UNSERVED, USER_PIN, X86, Reader,
+                   as_if_at_once, check, end, issue_line, wait_until)
 
 DISK = os.path.join(ROOT, "target", "reader", "disk")  # the reader over disk.c
 OFF, ON, RESET, GET_ATR = (bytes([code]) for code in (0, 1, 2, 4))
@@ -190,30 +190,30 @@ def messages():
 def taken():
     """vpcd speaks to a card that it has taken. A connection alone may be one that the system keeps while another card is in."""
     is_in = "limpet-reader: the card is in the reader {}on port {}\n".format
-    not_yet = ("limpet-reader: vpcd has not taken the card yet: is another card in this reader? "
-               "End its reader/run, or give this one another port with --port\n")
     with socket.create_server(("127.0.0.1", 0)) as server:
         server.settimeout(SECONDS)
         port = server.getsockname()[1]
         with started(port) as first, server.accept()[0] as connection:
             time.sleep(1)
-            check("connected: nothing is said yet", first.said() == "", first.said())
+            check("connected: nothing is said yet", as_if_at_once(first.said(), first.begun) == "", first.said())
             check("vpcd speaks", Line(connection).ask(GET_ATR).startswith("3B8A"))
-            check("and the card is in the reader", first.said() == is_in("", port), first.said())
+            check("and the card is in the reader", as_if_at_once(first.said(), first.begun) == is_in("", port), first.said())
             with started(port) as second:
-                wait_until(second.said, "a word of the second card")
-                check("a second card is not in the reader", second.said() == not_yet, second.said())
+                wait_until(lambda: second.said().endswith("\n"), "a word of the second card")
+                check("a second card is not in the reader", second.said() == NOT_TAKEN, second.said())
+                check("and that is not said at once", time.monotonic() - second.begun >= BEFORE_WORD)
                 check("the first goes on", Line(connection).ask(QUERY) == "63C3")
                 first.end()
                 with server.accept()[0] as next_one:
-                    time.sleep(4)
-                    check("that is said once", second.said() == not_yet, second.said())
+                    time.sleep(BEFORE_WORD + 1)
+                    check("that is said once", second.said() == NOT_TAKEN, second.said())
                     check("vpcd speaks to the second", Line(next_one).ask(QUERY) == "63C3")
-                    check("and it is in the reader now", second.said() == not_yet + is_in("now, ", port), second.said())
+                    check("and it is in the reader now", second.said() == NOT_TAKEN + is_in("now, ", port), second.said())
     with connected() as (line, reader):
         line.connection.close()
         check("closed before a word: a good end", reader.process.wait(SECONDS) == 0, reader.said())
-        check("and no card was in the reader", reader.said() == "limpet-reader: the reader was closed\n", reader.said())
+        said = as_if_at_once(reader.said(), reader.begun)
+        check("and no card was in the reader", said == "limpet-reader: the reader was closed\n", reader.said())
 
 
 def broken():
@@ -295,7 +295,7 @@ def refused_lines():
                            ([os.path.join("examples", "box.script")], "")):
             with connected(*words) as (line, reader):
                 check(f"refused lines: the card of {' '.join(words)}", line.ask(GET_ATR).startswith("3B8A"))
-                before_it, is_in, _ = reader.said().partition("limpet-reader: the card is in the reader ")
+                before_it, is_in, _ = as_if_at_once(reader.said(), reader.begun).partition("limpet-reader: the card is in the reader ")
                 check(f"refused lines of {' '.join(words)}", before_it == due and is_in, reader.said())
 
 
