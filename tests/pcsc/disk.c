@@ -2,7 +2,8 @@
  * Stands between a program and the disk, with --wrap of the linker. The environment names one of the calls that reader/store.c
  * makes, by its number: DISK_FAILS, where that call fails as on a full disk, or by the number of errno in DISK_ERROR; DISK_KILLS,
  * where the program is killed before it; DISK_STOPS, where it stops before it until it is sent SIGCONT. Half of what a write was to
- * write is on the disk in the first two. DISK_LOG names a file to which each call is written that works.
+ * write is on the disk in the first two. DISK_LOG names a file to which each call is written that works. With DISK_PATIENT it waits
+ * a minute for a lock in place of five seconds, since a program that holds one may be slow.
  */
 #define _DEFAULT_SOURCE
 #include <errno.h>
@@ -13,6 +14,7 @@
 #include <stdlib.h>
 #include <string.h>
 #include <sys/stat.h>
+#include <time.h>
 #include <unistd.h>
 
 int __real_openat(int folder, const char *name, int flags, mode_t mode);
@@ -23,6 +25,9 @@ int __real_ftruncate(int file, off_t len);
 int __real_renameat(int from_folder, const char *from, int to_folder, const char *to);
 int __real_renameat2(int from_folder, const char *from, int to_folder, const char *to, unsigned flags);
 int __real_unlinkat(int folder, const char *name, int flags);
+int __real_nanosleep(const struct timespec *pause, struct timespec *left);
+
+enum { AS_BEFORE = 100, LONGER = 400000000 }; /* pauses, until it has said that it waits; and ns */
 
 static bool is_number(const char *variable, int number)
 {
@@ -122,4 +127,14 @@ int __wrap_renameat2(int from_folder, const char *from, int to_folder, const cha
 int __wrap_unlinkat(int folder, const char *name, int flags)
 {
     return made("unlinkat") ? __real_unlinkat(folder, name, flags) : -1;
+}
+
+int __wrap_nanosleep(const struct timespec *pause, struct timespec *left)
+{
+    static int pauses = 0;
+    const struct timespec longer = { .tv_nsec = LONGER };
+
+    pauses++;
+    note("nanosleep");
+    return __real_nanosleep(pauses > AS_BEFORE && getenv("DISK_PATIENT") != NULL ? &longer : pause, left);
 }
