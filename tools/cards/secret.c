@@ -1,6 +1,7 @@
 #define _DEFAULT_SOURCE /* sigpending */
 #include "secret.h"
 
+#include <errno.h>
 #include <poll.h>
 #include <signal.h>
 #include <string.h>
@@ -32,11 +33,26 @@ static void set_silent(struct termios terminal)
     tcsetattr(STDIN_FILENO, TCSANOW, &terminal);
 }
 
+/* In the background the program stops here until fg: the modes are those of the shell's own line. False where no fg can come. */
+static bool come_to_front(void)
+{
+    return tcdrain(STDIN_FILENO) == 0 || errno != EIO;
+}
+
+/* At a terminal that is not the program's own there is no background. */
+static bool is_in_front(void)
+{
+    pid_t front = tcgetpgrp(STDIN_FILENO);
+
+    return front < 0 || front == getpgrp();
+}
+
 /* False where there is no terminal. */
 static bool hide_typing(struct before *b)
 {
     sigset_t signals;
 
+    come_to_front();
     if (tcgetattr(STDIN_FILENO, &b->terminal) != 0)
         return false;
     sigemptyset(&signals);
@@ -81,13 +97,18 @@ static bool is_typed(int ms)
     return poll(&input, 1, ms) > 0;
 }
 
-/* Until something is typed; false where the program is to end first. */
+/*
+ * Until there is something to read; false where the program is to end first. What is typed after SIGSTOP and bg is another program's:
+ * to read it would stop this one, and after fg go on with it before what is typed is hidden again.
+ */
 static bool wait_for_typing(void)
 {
     while (!is_ended()) {
-        if (is_typed(PAUSE))
-            return true;
+        if (!come_to_front())
+            return true; /* an error */
         stay_hidden();
+        if (is_typed(PAUSE) && is_in_front())
+            return true;
     }
     return false;
 }
