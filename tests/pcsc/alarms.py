@@ -14,7 +14,7 @@ import threading
 import time
 
 from stack import (ADMIN_PIN, ISSUE_WORDS, PORT, ROOT, SECONDS, USER_PIN, Scriptor, Terminal, card, card_present, check, end,
-                   issue_line, wait_until)
+                   is_stopped, issue_line, wait_until)
 
 RANDOM = "00112233445566778899AABBCCDDEEFF"
 # The device login of FIPS 197's appendix C.1: its key is ISSUE_WORDS', its plaintext the random input.
@@ -239,18 +239,41 @@ def shown(terminal):
     return termios.tcgetattr(terminal.terminal)[3] & termios.ECHO != 0
 
 
-# Until the shell has seen that the tool waits in the background to set the terminal's modes
-BACKGROUND = 'bg; until [ -n "$(jobs -s)" ]; do sleep 0.1; done; fg'
+# Once the shell has seen that the tool waits in the background to set the terminal's modes
+FRONT = 'until [ -n "$(jobs -s)" ]; do sleep 0.1; done; fg'
 TYPED_AT_ONCE = "python3 tests/pcsc/altered.py '" + json.dumps({"typed_at": 3}) + "'"
+
+
+def shell():
+    terminal = Terminal("env", "TERM=dumb", "PS1=> ", "bash", "--norc", "--noprofile", "-i")
+    terminal.wait_for("^> $")
+    return terminal
+
+
+def begun_in_background():
+    """While the shell has a line typed to itself, which it does in modes of its own: they are not taken for those of before."""
+    terminal = shell()
+    terminal.type("tools/alarms &")
+    number = terminal.wait_for(r"^\[1\] (\d+)\n")[1]
+    wait_until(lambda: is_stopped(number), "a wait for the terminal")
+    terminal.wait_for("^> $")
+    terminal.type(FRONT)
+    terminal.wait_for(PROMPT)
+    os.write(terminal.terminal, b"123456\r")  # as the key sends it
+    terminal.wait_for(gone(2))
+    terminal.wait_for("^> $")
+    terminal.type("stty -a; exit")
+    terminal.end()
+    check("begun in the background: the alarms", BOX in terminal.text and "123456" not in terminal.text, terminal.text)
+    check("begun in the background: the modes after it", {"icanon", "icrnl", "echo"} <= set(terminal.text.split()), terminal.text)
 
 
 def stopped_and_continued(tool):
     """Ctrl-Z and fg, in a shell: what is typed then is not shown either, and not dropped, however soon behind the prompt it comes."""
-    terminal = Terminal("env", "TERM=dumb", "PS1=> ", "bash", "--norc", "--noprofile", "-i")
-    terminal.wait_for("^> $")
+    terminal = shell()
     terminal.type(tool)
     terminal.wait_for(PROMPT)
-    for back in ("fg", BACKGROUND):
+    for back in ("fg", f"bg; {FRONT}"):
         os.write(terminal.terminal, b"12\x1a")  # 12, and Ctrl-Z
         terminal.wait_for("Stopped")
         terminal.wait_for("^> $")
@@ -316,6 +339,7 @@ def terminals():
     with box_card(0):
         stopped_and_continued("tools/alarms")
         stopped_and_continued(TYPED_AT_ONCE)
+        begun_in_background()
         held_and_released()
         ended_at_prompt()
         typed_in_pieces()

@@ -63,6 +63,12 @@ def wait_until(true, what):
         time.sleep(0.05)
 
 
+def is_stopped(process):
+    """As by Ctrl-Z, or where it asks something of a terminal in the background."""
+    with open(f"/proc/{process}/stat", encoding="ascii") as file:
+        return file.read().rpartition(")")[2].split()[0] == "T"
+
+
 def cryptogram(challenge):
     """AES-128 under the device key of the challenge filled with 00 to 16 bytes, by openssl."""
     block = bytes.fromhex(challenge).ljust(16, b"\0")
