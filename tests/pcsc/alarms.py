@@ -1,7 +1,6 @@
 #!/usr/bin/env python3
 """tools/alarms with cards in the virtual reader. What it does without one is in tests/alarms."""
 import contextlib
-import ctypes
 import json
 import os
 import signal
@@ -13,15 +12,12 @@ import termios
 import threading
 import time
 
-from stack import (ADMIN_PIN, ISSUE_WORDS, PORT, ROOT, SECONDS, USER_PIN, Scriptor, Terminal, card, card_present, check, end,
-                   is_stopped, issue_line, wait_until)
+from stack import (ADMIN_PIN, ISSUE_WORDS, PORT, READERS, ROOT, SECONDS, USER_PIN, Scriptor, Terminal, card, card_present, changes, check,
+                   end, is_stopped, issue_line, wait_for_removal, wait_until)
 
 RANDOM = "00112233445566778899AABBCCDDEEFF"
 # The device login of FIPS 197's appendix C.1: its key is ISSUE_WORDS', its plaintext the random input.
 LOGIN = ["0084000010", "008200001069C4E0D86A7B0430D8CDB78070B4C55A"]
-
-
-READERS = ["Virtual PCD 00 00", "Virtual PCD 00 01"]  # as pcscd names vpcd's two slots
 
 
 def heading(slot=0, file=None):
@@ -414,22 +410,6 @@ def mute():
 # ---- cards that fail while they are read
 
 
-class ReaderState(ctypes.Structure):
-    """As pcsclite.h has it."""
-
-    _fields_ = [("reader", ctypes.c_char_p), ("user_data", ctypes.c_void_p), ("current", ctypes.c_ulong), ("event", ctypes.c_ulong),
-                ("atr_length", ctypes.c_ulong), ("atr", ctypes.c_ubyte * 33)]
-
-
-def changes():
-    """How often pcscd has looked and seen that a card had come to the first slot, or was gone from it."""
-    library, context, state = ctypes.CDLL("libpcsclite.so.1"), ctypes.c_long(), ReaderState(reader=READERS[0].encode())
-    library.SCardEstablishContext(ctypes.c_ulong(2), None, None, ctypes.byref(context))
-    library.SCardGetStatusChange(context, ctypes.c_ulong(0), ctypes.byref(state), ctypes.c_ulong(1))
-    library.SCardReleaseContext(context)
-    return state.event >> 16
-
-
 @contextlib.contextmanager
 def made_up(answer, atr=bytes.fromhex("3B8A8131FE45807116564C494D50455439"), present=card_present, at_reset=lambda: None):
     """A card of this test's own in the virtual reader. answer: gives its answer to a command; None where it is taken out. present:
@@ -464,10 +444,7 @@ def made_up(answer, atr=bytes.fromhex("3B8A8131FE45807116564C494D50455439"), pre
             with contextlib.suppress(OSError):  # where it is taken out already
                 vpcd.shutdown(socket.SHUT_RDWR)
             served.join(SECONDS)
-    # Of a card that it could not reset pcscd says at once that it is not there, but looks for it only every 0.4 s, and does not
-    # see another one that is put in before.
-    wait_until(lambda: changes() != before, "pcscd's look for the card")
-    wait_until(lambda: not card_present(), "the card's removal")
+    wait_for_removal(before)
 
 
 def failing():

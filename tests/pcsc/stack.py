@@ -3,6 +3,7 @@
 pcscd with vpcd's driver has to be running (tests/reader starts it) for all but the reader itself.
 """
 import contextlib
+import ctypes
 import os
 import pty
 import re
@@ -18,6 +19,7 @@ X86 = os.path.join(ROOT, "tools", "x86", "run")  # runs the reader's program on 
 READER = os.path.join(ROOT, "target", "reader", "limpet-reader")
 UNSERVED = os.path.join(ROOT, "target", "reader", "unserved")  # the same over unserved.c
 PORT = 35963  # vpcd's, for the first of its slots
+READERS = ["Virtual PCD 00 00", "Virtual PCD 00 01"]  # as pcscd names vpcd's two slots
 SECONDS = 120  # how long anything may take before it counts as not coming, however slow and busy the machine is
 BEFORE_WORD = 3  # seconds for which the reader waits for vpcd before it says this
 NOT_TAKEN = ("limpet-reader: vpcd has not taken the card yet: is another card in this reader? "
@@ -123,18 +125,42 @@ def card_present(slot=0):
     return re.search(rf"^{slot} +Yes ", listed, re.MULTILINE) is not None
 
 
+class ReaderState(ctypes.Structure):
+    """As pcsclite.h has it."""
+
+    _fields_ = [("reader", ctypes.c_char_p), ("user_data", ctypes.c_void_p), ("current", ctypes.c_ulong), ("event", ctypes.c_ulong),
+                ("atr_length", ctypes.c_ulong), ("atr", ctypes.c_ubyte * 33)]
+
+
+def changes(slot=0):
+    """How often pcscd has looked and seen that a card had come to that slot, or was gone from it."""
+    library, context, state = ctypes.CDLL("libpcsclite.so.1"), ctypes.c_long(), ReaderState(reader=READERS[slot].encode())
+    library.SCardEstablishContext(ctypes.c_ulong(2), None, None, ctypes.byref(context))
+    library.SCardGetStatusChange(context, ctypes.c_ulong(0), ctypes.byref(state), ctypes.c_ulong(1))
+    library.SCardReleaseContext(context)
+    return state.event >> 16
+
+
+def wait_for_removal(before, slot=0):
+    """before: the changes while the card was in. Of a card that it could not reset pcscd says at once that it is not there, but looks
+    for it only every 0.4 s, and does not see another one that is put in before."""
+    wait_until(lambda: changes(slot) != before and not card_present(slot), "the card's removal")
+
+
 @contextlib.contextmanager
 def card(*words, slot=0):
     """A card in the virtual reader, seen by pcscd, until the block ends. slot: vpcd has two, which programs take for two readers."""
     reader = Reader(["--verbose", "--port", str(PORT + slot), *words])
+    before = None
     try:
         wait_until(lambda: card_present(slot) or reader.process.poll() is not None, "a card in the reader")
         if reader.process.poll() is not None:
             raise RuntimeError(reader.said())
+        before = changes(slot)
         yield reader
     finally:
         reader.end()
-        wait_until(lambda: not card_present(slot), "the card's removal")
+        wait_for_removal(before, slot)
 
 
 # ---- programs at a terminal, and the two clients
@@ -145,6 +171,7 @@ class Terminal:
 
     def __init__(self, *words):
         self.text = ""
+        self.half = b""  # of an end of a line, which may come in two pieces
         self.seen = 0  # text up to here has been waited for
         self.pid, self.terminal = pty.fork()
         if self.pid == 0:
@@ -159,7 +186,9 @@ class Terminal:
             got = os.read(self.terminal, 65536)
         except OSError:  # what Linux says where the other end is closed
             got = b""
-        self.text += got.decode().replace("\r\n", "\n")
+        piece = self.half + got
+        self.half = b"\r" if got and piece.endswith(b"\r") else b""
+        self.text += piece.removesuffix(self.half).decode().replace("\r\n", "\n")
         return got != b""
 
     def wait_for(self, pattern):
