@@ -7,6 +7,9 @@
 
 enum { LINE_BYTES = 32, FID_BYTES = 2, CREATE_BYTES = 5 };
 
+/* FID, tab, right and newline; and what the session's line and a file's end with: a tab and a folder's FID. */
+enum { FOLDER_LENGTH = 2 * FID_BYTES + 1 + 2 + 1, HOME_LENGTH = 1 + 2 * FID_BYTES };
+
 /* What a file's line counts: the bytes used of type 2C, the records held of the others. */
 static unsigned counted(const struct file *f)
 {
@@ -40,21 +43,21 @@ static size_t optional_length(size_t bytes)
 static size_t session_length(const struct session *s, const struct response *r)
 {
     return 2 * CREDENTIALS + optional_length(s->current != 0 ? FID_BYTES : 0) + 1 + optional_length(s->length) + 1
-        + 2 + optional_length(waiting_count(r)) + 1;
+        + 2 + optional_length(waiting_count(r)) + HOME_LENGTH + 1;
 }
 
 static size_t file_length(const struct file *f)
 {
     size_t size = file_size(f);
 
-    return 2 * FID_BYTES + 1 + 2 * CREATE_BYTES + 1 + decimal_length(counted(f)) + 1 + decimal_length(f->newest) + 1
+    return 2 * FID_BYTES + 1 + 2 * CREATE_BYTES + 1 + decimal_length(counted(f)) + 1 + decimal_length(f->newest) + HOME_LENGTH + 1
         + 2 * size + (size + LINE_BYTES - 1) / LINE_BYTES;
 }
 
 /* Counted first, since nothing may be written where the text does not fit. */
 static size_t card_length(const struct layout *c)
 {
-    size_t length = session_length(&c->session, &c->response);
+    size_t length = session_length(&c->session, &c->response) + FOLDER_LENGTH * (size_t)c->directory.number;
 
     for (size_t i = 0; i < CREDENTIALS; i++)
         length += credential_length(&c->credentials[i]);
@@ -107,6 +110,15 @@ static uint8_t *put_credential(uint8_t *to, const struct credential *x)
     return put(to, '\n');
 }
 
+/* A tab and the FID of a folder, by its place plus one; 3F00 for the root. */
+static uint8_t *put_home(uint8_t *to, const struct directory *d, uint8_t folder)
+{
+    const struct folder root = { 0x3F, 0x00, 0 }, *f = folder > 0 ? &d->folders[folder - 1] : &root;
+    const uint8_t fid[FID_BYTES] = { f->fid1, f->fid2 };
+
+    return put_hex(put(to, '\t'), fid, sizeof fid);
+}
+
 static uint8_t *put_session(uint8_t *to, const struct layout *c)
 {
     const struct session *s = &c->session;
@@ -129,10 +141,21 @@ static uint8_t *put_session(uint8_t *to, const struct layout *c)
     to = put(to, r->mode != 0 ? '1' : '0');
     to = put(to, '\t');
     to = put_optional(to, r->bytes, waiting_count(r));
+    to = put_home(to, &c->directory, s->folder);
     return put(to, '\n');
 }
 
-static uint8_t *put_file(uint8_t *to, const struct file *f, const uint8_t *extent)
+static uint8_t *put_folder(uint8_t *to, const struct folder *f)
+{
+    const uint8_t fid[FID_BYTES] = { f->fid1, f->fid2 };
+
+    to = put_hex(to, fid, sizeof fid);
+    to = put(to, '\t');
+    to = put_hex(to, &f->right, 1);
+    return put(to, '\n');
+}
+
+static uint8_t *put_file(uint8_t *to, const struct directory *d, const struct file *f, const uint8_t *extent)
 {
     const uint8_t fid[FID_BYTES] = { f->fid1, f->fid2 };
     const uint8_t created[CREATE_BYTES] = { f->type, f->size1, f->size2, f->read, f->write };
@@ -145,6 +168,7 @@ static uint8_t *put_file(uint8_t *to, const struct file *f, const uint8_t *exten
     to = put_decimal(to, counted(f));
     to = put(to, '\t');
     to = put_decimal(to, f->newest);
+    to = put_home(to, d, f->folder);
     to = put(to, '\n');
     for (size_t at = 0; at < size; at += LINE_BYTES) {
         size_t left = size - at;
@@ -159,9 +183,11 @@ static void put_card(uint8_t *to, const struct layout *c, const uint8_t *area)
     for (size_t i = 0; i < CREDENTIALS; i++)
         to = put_credential(to, &c->credentials[i]);
     to = put_session(to, c);
+    for (size_t i = 0; i < c->directory.number; i++)
+        to = put_folder(to, &c->directory.folders[i]);
     for (size_t i = 0; i < c->directory.count; i++) {
         const struct file *f = &c->directory.files[i];
-        to = put_file(to, f, area);
+        to = put_file(to, &c->directory, f, area);
         area += file_size(f);
     }
 }
@@ -282,10 +308,10 @@ static bool take_credential(struct input *in, struct credential *x)
         && take_small(in, &x->tries.left) && take(in, '\n');
 }
 
-/* The current file is known by its FID here; its place shows when the files are read. */
+/* The current file and folder are known by their FIDs here; their places show when folders and files are read. */
 struct current {
     bool is_any;
-    uint8_t fid[FID_BYTES];
+    uint8_t fid[FID_BYTES], home[FID_BYTES];
 };
 
 /* A right or the mode, with the tab behind it. */
@@ -317,7 +343,38 @@ static bool take_session(struct input *in, struct session *s, struct response *r
         || !take_optional(in, s->challenge, CHALLENGE_ROOM, &length) || !take(in, '\t'))
         return false;
     s->length = (uint8_t)length;
-    return take_response(in, r) && take(in, '\n');
+    return take_response(in, r) && take(in, '\t') && take_hex(in, current->home, sizeof current->home) && take(in, '\n');
+}
+
+/* The place plus one of the folder with that FID; 0 for the root. */
+static bool find_home(const struct directory *d, const uint8_t *fid, uint8_t *folder)
+{
+    for (*folder = 0; *folder < d->number; ++*folder)
+        if (d->folders[*folder].fid1 == fid[0] && d->folders[*folder].fid2 == fid[1]) {
+            ++*folder;
+            return true;
+        }
+    *folder = 0;
+    return fid[0] == 0x3F && fid[1] == 0x00;
+}
+
+/* A folder's line is told from a file's by where it ends. */
+static bool is_folder_next(const struct input *in)
+{
+    return in->length - in->at >= FOLDER_LENGTH && in->text[in->at + FOLDER_LENGTH - 1] == '\n';
+}
+
+static bool take_folders(struct input *in, struct directory *d)
+{
+    uint8_t fid[FID_BYTES], right;
+
+    while (is_folder_next(in)) {
+        if (d->number == FOLDERS || !take_hex(in, fid, sizeof fid) || !take(in, '\t') || !take_hex(in, &right, 1)
+            || !take(in, '\n'))
+            return false;
+        d->folders[d->number++] = (struct folder){ fid[0], fid[1], right };
+    }
+    return true;
 }
 
 static bool take_counted(struct input *in, struct file *f)
@@ -333,15 +390,16 @@ static bool take_counted(struct input *in, struct file *f)
     return true;
 }
 
-static bool take_file_line(struct input *in, struct file *f)
+static bool take_file_line(struct input *in, const struct directory *d, struct file *f)
 {
-    uint8_t fid[FID_BYTES], created[CREATE_BYTES];
+    uint8_t fid[FID_BYTES], created[CREATE_BYTES], home[FID_BYTES];
 
     if (!take_hex(in, fid, sizeof fid) || !take(in, '\t') || !take_hex(in, created, sizeof created) || !take(in, '\t'))
         return false;
     *f = (struct file){ .fid1 = fid[0], .fid2 = fid[1], .type = created[0], .size1 = created[1], .size2 = created[2],
                         .read = created[3], .write = created[4] };
-    return take_counted(in, f) && take(in, '\t') && take_small(in, &f->newest) && take(in, '\n');
+    return take_counted(in, f) && take(in, '\t') && take_small(in, &f->newest) && take(in, '\t')
+        && take_hex(in, home, sizeof home) && take(in, '\n') && find_home(d, home, &f->folder);
 }
 
 static bool take_contents(struct input *in, uint8_t *extent, size_t size)
@@ -360,7 +418,7 @@ static bool take_files(struct input *in, struct directory *d, uint8_t *area)
 
     while (in->at < in->length) {
         struct file *f = &d->files[d->count];
-        if (d->count == FILES || !take_file_line(in, f))
+        if (d->count == FILES || !take_file_line(in, d, f))
             return false;
         size_t size = file_size(f);
         if (size == 0 || size > LIMPET_AREA_SIZE - taken || !take_contents(in, area + taken, size))
@@ -373,11 +431,13 @@ static bool take_files(struct input *in, struct directory *d, uint8_t *area)
 
 static bool find_current(struct layout *c, const struct current *current)
 {
+    if (!find_home(&c->directory, current->home, &c->session.folder))
+        return false;
     if (!current->is_any)
         return true;
     for (uint8_t i = 0; i < c->directory.count; i++) {
         const struct file *f = &c->directory.files[i];
-        if (f->fid1 == current->fid[0] && f->fid2 == current->fid[1]) {
+        if (f->folder == c->session.folder && f->fid1 == current->fid[0] && f->fid2 == current->fid[1]) {
             c->session.current = (uint8_t)(i + 1);
             return true;
         }
@@ -392,8 +452,8 @@ static bool take_card(struct input *in, struct layout *c, uint8_t *area)
     for (size_t i = 0; i < CREDENTIALS; i++)
         if (!take_credential(in, &c->credentials[i]))
             return false;
-    return take_session(in, &c->session, &c->response, &current) && take_files(in, &c->directory, area) && find_current(c, &current)
-        && is_sound((const uint8_t *)c, area);
+    return take_session(in, &c->session, &c->response, &current) && take_folders(in, &c->directory)
+        && take_files(in, &c->directory, area) && find_current(c, &current) && is_sound((const uint8_t *)c, area);
 }
 
 /* The text is read into a card and an area of its own: the caller's area has to stay where the last line is bad. */

@@ -1,6 +1,7 @@
 /*
- * A card written as lines and read again (requests R-4 and R-6), in plain C: for
- * bench/texts and tests/fuzz-texts to hold the library's two calls against.
+ * A card written as lines and read again (requests R-4 and R-6, in the new form
+ * of R-8), in plain C: for bench/texts and tests/fuzz-texts to hold the library's
+ * two calls against.
  * The parameters and the outcomes are those of limpet_to_text and limpet_from_text.
  */
 #ifndef PLAIN_TEXT_H

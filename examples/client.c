@@ -83,7 +83,10 @@ static unsigned give(const char *name, const uint8_t *command, size_t length)
     return LIMPET_SW_IS_WAITING(sw) ? give("GET RESPONSE", get_response, sizeof get_response) : sw; /* a card of mode 1 */
 }
 
-/* Has the card of the file. It was without power, so the rights that its text may bring along end here, by the reset. */
+/*
+ * Has the card of the file. It was without power, so the rights that its text may bring along end here, by the reset. That leads to
+ * the root too, where the alarms are, from a directory that the text may be in.
+ */
 static void load(void)
 {
     struct stat opened, named;

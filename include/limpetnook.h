@@ -23,7 +23,7 @@
  * What is taken at most, measured and not proved (tests/footprint):
  *
  *                     code    constants   stack of a call      C functions needed
- *   liblimpetnook.a   71000   1500        LIMPET_TEXT_STACK    memcpy, memset
+ *   liblimpetnook.a   72000   700         LIMPET_TEXT_STACK    memcpy, memset
  *   limpet_aes128     1335    0           LIMPET_AES128_STACK  none
  *
  * The second row is for a program that calls limpet_aes128 alone and is linked
@@ -48,7 +48,7 @@ extern "C" {
  *
  *   if (limpet_version() != LIMPET_VERSION) ... header and library do not match
  */
-#define LIMPET_VERSION 8
+#define LIMPET_VERSION 9
 
 uint32_t limpet_version(void);
 
@@ -56,8 +56,8 @@ uint32_t limpet_version(void);
  * The bytes of stack that are enough for a call: on a card, of its two calls
  * for a text, and of limpet_aes128.
  */
-#define LIMPET_CARD_STACK 5120
-#define LIMPET_TEXT_STACK 16384
+#define LIMPET_CARD_STACK 5632
+#define LIMPET_TEXT_STACK 17408
 #define LIMPET_AES128_STACK 512
 
 /* Outcomes. The numbers are fixed: scripts print them too. */
@@ -79,7 +79,7 @@ uint32_t limpet_version(void);
 #define LIMPET_RANDOM_SIZE 16  /* fresh random bytes: exactly */
 #define LIMPET_KEY_SIZE 16     /* the device key: exactly */
 #define LIMPET_REPLY_SIZE 258  /* the reply: at least */
-#define LIMPET_TEXT_SIZE 9401  /* the text of a card: no card has a longer one */
+#define LIMPET_TEXT_SIZE 9518  /* the text of a card: no card has a longer one */
 
 /*
  * Status words, the last two bytes of an answer: those that a program needs by
@@ -133,9 +133,9 @@ uint8_t limpet_aes128(const uint8_t *key, size_t key_len,
                       uint8_t *out, size_t out_len);
 
 /*
- * A card: its credentials, tries, directory and session. What is in it is not
- * for C to read or write; the contents of its files are in the data area. It
- * holds the key and the PINs as they are: keep it where nobody else can read.
+ * A card: its credentials, tries, directories, files and session. What is in it
+ * is not for C to read or write; the contents of its files are in the data area.
+ * It holds the key and the PINs as they are: keep it where nobody else can read.
  *
  * The caller keeps the card and its area of 4,096 bytes, and lends both to each
  * call, always the same two together. The call changes them in place. While no
@@ -170,13 +170,14 @@ struct limpet_card;
  *
  * once limpet_version() was seen to be LIMPET_VERSION.
  */
-#define LIMPET_CARD_SIZE 514
+#define LIMPET_CARD_SIZE 544
 
 size_t limpet_card_size(void);
 
 /*
- * Issues a card: full tries, no files, no right held, no challenge, nothing
- * waiting, and an area of 00. What the card's bytes were before does not matter.
+ * Issues a card: full tries, no files and no directories, the root current, no
+ * right held, no challenge, nothing waiting, and an area of 00. What the card's
+ * bytes were before does not matter.
  *
  * The device key is LIMPET_KEY_SIZE bytes. A PIN is 6 to 16 bytes, each an
  * ASCII digit. A limit, of wrong presentations in a row, is 1 to 128. The mode
@@ -237,9 +238,10 @@ uint8_t limpet_command(struct limpet_card *card,
                        size_t *reply_count);
 
 /*
- * Resets the card, as taking it out of the reader does: no right is held, no
- * file is current, there is no challenge, nothing waits. Tries, PINs, files and
- * the mode stay. The area is only read.
+ * Resets the card, as taking it out of the reader does: no right is held, the
+ * root is the current directory, no file is current, there is no challenge,
+ * nothing waits. Tries, PINs, directories, files and the mode stay. The area is
+ * only read.
  *
  *   LIMPET_OK        the card is reset.
  *   LIMPET_BAD_AREA  area_len is not LIMPET_AREA_SIZE.
@@ -288,7 +290,8 @@ uint8_t limpet_to_text(const struct limpet_card *card,
  * The card has the rights, the challenge and the waiting bytes of its text. Where
  * it was without power meanwhile, limpet_reset has to come next. A text that was
  * cut off between two files may not be refused: it can be that of a card without
- * the files that followed. So store a text as a whole or not at all.
+ * the files that followed; and so behind a directory. So store a text as a whole
+ * or not at all. A text of version 8 or earlier is refused: it has no directories.
  *
  * A text that was read and is written again is the same text. A card that was
  * written and is read again is the same card with the same files.

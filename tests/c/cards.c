@@ -140,6 +140,33 @@ static void full(struct held *h)
     }
 }
 
+/*
+ * Three folders, the last one empty. SFI 1 and 2 are in the root and in the two others; 0101 and 0102 are twice; a file in the first
+ * folder has the second one's FID. A file of the second folder is current, and there are a challenge and the device right.
+ */
+static void with_folders(struct held *h)
+{
+    issue(h);
+    log_in_device(h);
+    told(h, "80 E0 5101 05 38 0000 00 00");
+    told(h, "80 E0 5102 05 38 0000 01 00");
+    told(h, "80 E0 511E 05 38 0000 C2 00");
+    told(h, "80 E0 0101 05 28 0010 00 01");
+    told(h, "80 E0 0102 05 2E 0304 00 00");
+    told(h, "00 E2 0010 04 A1A1A1A1");
+    told(h, "00 A4 0000 02 5101");
+    told(h, "80 E0 0101 05 28 0008 00 00");
+    told(h, "80 E0 5102 05 2C 0010 80 00");
+    told(h, "00 A4 0000 02 3F00");
+    told(h, "00 A4 0000 02 5102");
+    told(h, "80 E0 0201 05 2A 0203 00 01");
+    told(h, "80 E0 0102 05 28 0004 00 00");
+    told(h, "80 E0 0103 05 2E 0304 00 00");
+    told(h, "00 E2 0018 04 B1B1B1B1");
+    told(h, "00 D6 8200 02 C1C2");
+    told(h, "00 84 0000 04");
+}
+
 /* A read made another file current; the challenge after it was fetched in two parts, and stays. */
 static void none_waiting(struct held *h)
 {
@@ -228,6 +255,7 @@ const struct sort sorts[SORTS] = {
     [WITH_RIGHTS] = { "with all rights and a challenge", with_rights },
     [LOCKED] = { "with a locked PIN", locked },
     [SIXTEEN] = { "with sixteen files", full },
+    [WITH_FOLDERS] = { "with directories", with_folders },
     [NONE_WAITING] = { "in mode 1 with nothing waiting", none_waiting },
     [ALL_WAITING] = { "in mode 1 with 256 bytes waiting", all_waiting },
     [WITH_NOTES] = { "in mode 1 with notes of different lengths and five bytes waiting", with_notes },

@@ -24,7 +24,9 @@ struct sort {
     void (*make)(struct held *h);
 };
 
-enum { FRESH, WITH_FILES, WITH_RIGHTS, LOCKED, SIXTEEN, NONE_WAITING, ALL_WAITING, WITH_NOTES, FULL_OF_NOTES, SORTS };
+enum {
+    FRESH, WITH_FILES, WITH_RIGHTS, LOCKED, SIXTEEN, WITH_FOLDERS, NONE_WAITING, ALL_WAITING, WITH_NOTES, FULL_OF_NOTES, SORTS
+};
 extern const struct sort sorts[SORTS];
 
 #endif

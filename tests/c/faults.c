@@ -272,6 +272,208 @@ static void spoil_waiting(struct limpet_card *card, const struct layout *before,
     memcpy(card, &c, sizeof c);
 }
 
+/* ---- directories (R-7) ---- */
+
+/* Whether a folder or a root file has that FID. */
+static bool is_taken(const struct directory *d, uint8_t fid1, uint8_t fid2)
+{
+    for (size_t i = 0; i < d->number && i < FOLDERS; i++)
+        if (d->folders[i].fid1 == fid1 && d->folders[i].fid2 == fid2)
+            return true;
+    for (size_t i = 0; i < d->count && i < FILES; i++)
+        if (d->files[i].folder == 0 && d->files[i].fid1 == fid1 && d->files[i].fid2 == fid2)
+            return true;
+    return false;
+}
+
+/* A good FID for a folder, which nothing has. */
+static void rename_folder(struct directory *d, size_t folder)
+{
+    uint8_t fid2 = 1;
+
+    while (is_taken(d, 0xEE, fid2))
+        fid2++;
+    d->folders[folder].fid1 = 0xEE;
+    d->folders[folder].fid2 = fid2;
+}
+
+/* A good FID for a file, its SFI free in its folder. */
+static void rename_file(struct directory *d, size_t file)
+{
+    uint32_t used = 0;
+    uint8_t sfi = 1;
+
+    for (size_t i = 0; i < d->count && i < FILES; i++)
+        if (i != file && d->files[i].folder == d->files[file].folder)
+            used |= UINT32_C(1) << (d->files[i].fid2 & 31u);
+    while (used >> sfi & 1)
+        sfi++;
+    d->files[file].fid1 = 0xEF;
+    d->files[file].fid2 = sfi;
+}
+
+/* As where a library looks at some part of a folder no more. */
+static void mend_folder(struct directory *d, size_t folder)
+{
+    struct folder *f = &d->folders[folder];
+
+    for (size_t i = 0; i < folder && has_fault("folder-fid-twice"); i++)
+        if (d->folders[i].fid1 == f->fid1 && d->folders[i].fid2 == f->fid2)
+            rename_folder(d, folder);
+    for (size_t i = 0; i < d->count && i < FILES && has_fault("folder-fid-of-a-root-file"); i++)
+        if (d->files[i].folder == 0 && d->files[i].fid1 == f->fid1 && d->files[i].fid2 == f->fid2)
+            rename_folder(d, folder);
+    if (has_fault("folder-low-bits-0") && (f->fid2 & 31) == 0)
+        rename_folder(d, folder);
+    if (has_fault("folder-low-bits-31") && (f->fid2 & 31) == 31)
+        rename_folder(d, folder);
+    if (has_fault("creation-right-not-looked-at"))
+        f->right = 0;
+    if (has_fault("creation-right-bit-2-alone") && f->right == 0x02)
+        f->right = 0;
+    if (has_fault("creation-right-bit-3-good") && (f->right & 0x04) != 0 && f->right != 0x0F)
+        f->right &= 0xC3;
+}
+
+/* As where a library looks at some part of where a file lies no more. */
+static void mend_file(struct layout *c, size_t file)
+{
+    struct directory *d = &c->directory;
+    struct file *f = &d->files[file];
+
+    if (has_fault("file-in-no-folder") && f->folder > d->number) {
+        f->folder = 0;
+        rename_file(d, file);
+        if (c->session.current == file + 1)
+            c->session.folder = 0;
+    }
+    for (size_t i = 0; i < file && has_fault("sfi-twice-in-a-folder"); i++)
+        if (f->folder != 0 && d->files[i].folder == f->folder && (d->files[i].fid2 & 31) == (f->fid2 & 31))
+            rename_file(d, file);
+}
+
+/* Whether nothing else is unsound than what such a library does not look at. */
+static bool folders_alone_are_bad(const struct limpet_card *card, const uint8_t *area)
+{
+    struct layout c;
+    struct directory *d = &c.directory;
+
+    memcpy(&c, card, sizeof c);
+    if (is_sound((const uint8_t *)&c, area))
+        return false;
+    if (has_fault("places-past-the-last-folder") && d->number < FOLDERS)
+        memset(&d->folders[d->number], 0, (FOLDERS - d->number) * sizeof(struct folder));
+    if (has_fault("five-folders") && d->number == FOLDERS + 1)
+        d->number = FOLDERS;
+    if (has_fault("number-of-folders-not-looked-at") && d->number > FOLDERS)
+        d->number = FOLDERS;
+    for (size_t i = 0; i < d->number && i < FOLDERS; i++)
+        mend_folder(d, i);
+    for (size_t i = 0; i < d->count && i < FILES; i++)
+        mend_file(&c, i);
+    if (has_fault("folder-of-an-unused-file") && d->count < FILES)
+        for (size_t i = d->count; i < FILES; i++)
+            d->files[i].folder = 0;
+    if (has_fault("current-folder-not-there") && c.session.folder > d->number)
+        c.session.folder = c.session.current = 0;
+    if (has_fault("current-file-elsewhere") && c.session.current <= d->count && c.session.folder <= d->number)
+        c.session.current = 0;
+    if (has_fault("current-file-in-a-folder-from-the-root") && c.session.current <= d->count && c.session.folder == 0)
+        c.session.current = 0;
+    return is_sound((const uint8_t *)&c, area);
+}
+
+/* As where a library refuses what is sound. */
+static bool refuses_folders(const struct limpet_card *card)
+{
+    struct layout c;
+    const struct directory *d = &c.directory;
+
+    memcpy(&c, card, sizeof c);
+    if (has_fault("four-folders-refused") && d->number == FOLDERS)
+        return true;
+    if (has_fault("empty-folder-refused") && c.session.folder != 0 && c.session.current == 0)
+        return true;
+    for (size_t i = 0; i < d->number; i++) {
+        if (has_fault("creation-right-0f-refused") && d->folders[i].right == 0x0F)
+            return true;
+        if (has_fault("creation-right-with-bit-2-refused") && (d->folders[i].right & 0x02) != 0 && d->folders[i].right != 0x0F)
+            return true;
+        for (size_t j = 0; j < d->count; j++) {
+            if (has_fault("folder-fid-of-any-file-refused") && d->files[j].fid1 == d->folders[i].fid1
+                && d->files[j].fid2 == d->folders[i].fid2)
+                return true;
+            if (has_fault("folder-with-an-sfi") && d->files[j].folder == 0 && (d->files[j].fid2 & 31) == (d->folders[i].fid2 & 31))
+                return true;
+        }
+        for (size_t j = 0; j < i; j++)
+            if (has_fault("folders-by-their-low-bits") && (d->folders[i].fid2 & 31) == (d->folders[j].fid2 & 31))
+                return true;
+    }
+    for (size_t i = 0; i < d->count; i++)
+        for (size_t j = 0; j < i; j++)
+            if (has_fault("sfi-twice-in-the-card-refused") && (d->files[i].fid2 & 31) == (d->files[j].fid2 & 31))
+                return true;
+    return false;
+}
+
+static bool is_create(const uint8_t *command, size_t length)
+{
+    return length == 10 && command[0] == 0x80 && command[1] == 0xE0;
+}
+
+/* A served command. before: the card before it. */
+static void spoil_folders(struct limpet_card *card, const struct layout *before, const uint8_t *command, size_t length)
+{
+    struct layout c;
+    struct directory *d = &c.directory;
+
+    memcpy(&c, card, sizeof c);
+    bool made_folder = d->number > before->directory.number, made_file = d->count > before->directory.count;
+    bool moved = c.session.folder != before->session.folder, found = c.session.current != before->session.current;
+
+    if (has_fault("folder-made-becomes-current") && made_folder) {
+        c.session.folder = d->number;
+        c.session.current = 0;
+    }
+    if (has_fault("folder-made-drops-the-current-file") && made_folder)
+        c.session.current = 0;
+    if (has_fault("folder-made-with-another-right") && made_folder)
+        d->folders[d->number - 1].right = 0x01;
+    if (has_fault("folder-made-with-another-fid") && made_folder)
+        d->folders[d->number - 1].fid1 ^= 0x80;
+    if (has_fault("folder-not-made") && made_folder)
+        *d = before->directory;
+    if (has_fault("folder-made-changes-another") && made_folder && d->number > 1)
+        d->folders[0].right = 0x0F;
+    if (has_fault("file-made-in-the-root") && made_file)
+        d->files[d->count - 1].folder = c.session.folder = 0;
+    if (has_fault("file-made-in-another-folder") && made_file && d->number > 0)
+        d->files[d->count - 1].folder = c.session.folder = (uint8_t)(1 + before->session.folder % d->number);
+    if (has_fault("file-made-is-not-current") && made_file)
+        c.session.current = before->session.current;
+    if (has_fault("folder-selected-keeps-the-file") && moved)
+        c.session.current = before->session.current;
+    if (has_fault("folder-selected-again-keeps-the-file") && length == 7 && command[1] == 0xA4 && !moved && c.session.folder != 0
+        && c.session.current == 0)
+        c.session.current = before->session.current;
+    if (has_fault("folder-selected-is-the-next") && moved && c.session.folder != 0)
+        c.session.folder = (uint8_t)(1 + c.session.folder % d->number);
+    if (has_fault("root-selected-stays") && moved && c.session.folder == 0)
+        c.session.folder = before->session.folder;
+    if (has_fault("select-goes-to-the-root") && length == 7 && command[1] == 0xA4 && found)
+        c.session.folder = c.session.current = 0;
+    if (has_fault("any-command-returns-to-the-root") && !is_create(command, length))
+        c.session.folder = c.session.current = 0;
+    if (has_fault("a-file-moves-to-the-root") && d->count > 0 && !made_file)
+        d->files[d->count - 1].folder = 0;
+    if (has_fault("an-empty-folder-is-forgotten") && d->number == 3 && !made_folder) {
+        memset(&d->folders[2], 0, sizeof d->folders[2]);
+        d->number = 2;
+    }
+    memcpy(card, &c, sizeof c);
+}
+
 uint8_t __wrap_limpet_command(struct limpet_card *card, uint8_t *area, size_t area_len,
                               const uint8_t *command, size_t command_len,
                               const uint8_t *random, size_t random_len,
@@ -326,8 +528,12 @@ uint8_t __wrap_limpet_command(struct limpet_card *card, uint8_t *area, size_t ar
         count_one_less(card, command[3] >> 3);
     if (served)
         spoil_waiting(card, &before, command, command_len, reply, reply_count);
-    if (outcome == LIMPET_UNSOUND && waiting_alone_is_bad(card, area))
+    if (outcome == LIMPET_UNSOUND && (waiting_alone_is_bad(card, area) || folders_alone_are_bad(card, area)))
         return LIMPET_OK;
+    if (served && refuses_folders(card))
+        return LIMPET_UNSOUND;
+    if (served)
+        spoil_folders(card, &before, command, command_len);
     return outcome;
 }
 
@@ -338,6 +544,12 @@ uint8_t __wrap_limpet_reset(struct limpet_card *card, const uint8_t *area, size_
     memcpy(&before, card, sizeof before);
     uint8_t outcome = __real_limpet_reset(card, area, area_len);
 
+    if (has_fault("reset-stays-in-the-folder") && outcome == LIMPET_OK)
+        ((struct layout *)card)->session.folder = before.session.folder;
+    if (has_fault("reset-forgets-folders") && outcome == LIMPET_OK)
+        memset((uint8_t *)card + offsetof(struct layout, directory.folders), 0, sizeof before.directory.folders + 1);
+    if (has_fault("reset-takes-any-folder") && outcome == LIMPET_UNSOUND && before.session.folder > before.directory.number)
+        return LIMPET_OK;
     if (has_fault("reset-keeps-what-waits") && outcome == LIMPET_OK)
         ((struct layout *)card)->response = before.response;
     if (has_fault("reset-forgets-the-mode") && outcome == LIMPET_OK)
@@ -392,6 +604,34 @@ static void swap_pins(uint8_t *text, size_t count)
     memcpy(line[0], second, second_length);
 }
 
+/* As where a writer has the old form: without the root at the end of lines. */
+static void drop_roots(uint8_t *text, size_t *count)
+{
+    size_t kept = 0;
+
+    for (size_t i = 0; i < *count; i++)
+        if (i + 6 <= *count && memcmp(text + i, "\t3F00\n", 6) == 0)
+            i += 4;
+        else
+            text[kept++] = text[i];
+    *count = kept;
+}
+
+/* As where a writer begins with the folder that was made last: their lines stand behind the fourth newline, each of 8 bytes. */
+static void swap_folders(const struct limpet_card *card, uint8_t *text, size_t count)
+{
+    uint8_t number = ((const struct layout *)card)->directory.number, *at = text, first[8];
+
+    if (number < 2)
+        return;
+    for (int i = 0; i < 4; i++)
+        at = (uint8_t *)memchr(at, '\n', count - (size_t)(at - text)) + 1;
+    uint8_t *last = at + 8 * (number - 1);
+    memcpy(first, at, sizeof first);
+    memcpy(at, last, sizeof first);
+    memcpy(last, first, sizeof first);
+}
+
 uint8_t __wrap_limpet_to_text(const struct limpet_card *card, const uint8_t *area, size_t area_len,
                               uint8_t *text, size_t text_len, size_t *text_count)
 {
@@ -424,6 +664,10 @@ uint8_t __wrap_limpet_to_text(const struct limpet_card *card, const uint8_t *are
         lower_first_letter(text, *text_count);
     if (has_text_fault("text-pins-swapped") && served)
         swap_pins(text, *text_count);
+    if (has_text_fault("text-in-the-old-form") && served)
+        drop_roots(text, text_count);
+    if (has_text_fault("text-folders-in-another-order") && served)
+        swap_folders(card, text, *text_count);
     if (has_text_fault("text-just-fits-refused") && served && *text_count == text_len)
         return LIMPET_SHORT_TEXT;
     if (has_text_fault("text-short-before-unsound") && outcome == LIMPET_UNSOUND && text_len == 0)
@@ -524,20 +768,100 @@ static void take_for_mode_1(struct lenient *t, char mode)
         *at = '1';
 }
 
-/* As where one byte more may wait than there is room for: the first is left out. */
+/* As where one byte more may wait than there is room for: the first is left out. Behind them stands the folder. */
 static void drop_surplus(struct lenient *t)
 {
     uint8_t *mode = mode_in(t), *end = t->bytes + t->length;
     uint8_t *newline = mode != NULL ? memchr(mode, '\n', (size_t)(end - mode)) : NULL;
 
-    if (newline == NULL || newline - mode != 2 + 2 * (WAITING_ROOM + 1))
+    if (newline == NULL || newline - mode != 2 + 2 * (WAITING_ROOM + 1) + 5)
         return;
     memmove(mode + 2, mode + 4, (size_t)(end - (mode + 4)));
     t->length -= 2;
 }
 
+/* The line that begins there: where it ends, without its newline, and how many tabs are in it. */
+struct text_line {
+    uint8_t *at, *end;
+    unsigned tabs;
+};
+
+static struct text_line line_at(struct lenient *t, uint8_t *at)
+{
+    uint8_t *end = memchr(at, '\n', (size_t)(t->bytes + t->length - at));
+    struct text_line l = { at, end != NULL ? end : t->bytes + t->length, 0 };
+
+    for (uint8_t *p = l.at; p < l.end; p++)
+        l.tabs += *p == '\t';
+    return l;
+}
+
+/* Puts bytes in the place of others, where there is room for them. */
+static void put(struct lenient *t, uint8_t *at, size_t old, const char *new)
+{
+    size_t length = strlen(new), rest = (size_t)(t->bytes + t->length - at) - old;
+
+    if (t->length - old + length > LONGEST_TEXT)
+        return;
+    memmove(at + length, at + old, rest);
+    memcpy(at, new, length);
+    t->length += length - old;
+}
+
+static bool ends_with(const struct text_line *l, const char *end)
+{
+    size_t length = strlen(end);
+
+    return (size_t)(l->end - l->at) >= length && memcmp(l->end - length, end, length) == 0;
+}
+
+/* Whether some line is a folder's with this FID, or it is the root's. */
+static bool is_home(struct lenient *t, const uint8_t *fid)
+{
+    for (uint8_t *at = t->bytes; at < t->bytes + t->length;) {
+        struct text_line l = line_at(t, at);
+        if (l.tabs == 1 && l.end - l.at == 7 && memcmp(l.at, fid, 4) == 0)
+            return true;
+        at = l.end + 1;
+    }
+    return memcmp(fid, "3F00", 4) == 0;
+}
+
+/* As where a reader takes a line in another form of R-8. The session's line has 7 tabs, a file's 4 and a folder's 1. */
+static void take_folders(struct lenient *t)
+{
+    unsigned folders = 0, number = 0;
+
+    for (uint8_t *at = t->bytes; at < t->bytes + t->length; number++) {
+        struct text_line l = line_at(t, at);
+        bool has_home = (number == 3 && l.tabs == 7) || (number > 3 && l.tabs == 4);
+        if (has_text_fault("reader-takes-the-old-form") && ((number == 3 && l.tabs == 6) || (number > 3 && l.tabs == 3)))
+            put(t, l.end, 0, "\t3F00");
+        if (has_text_fault("reader-takes-a-session-without-a-folder") && number == 3 && l.tabs == 6)
+            put(t, l.end, 0, "\t3F00");
+        if (has_text_fault("reader-takes-dash-for-the-root") && has_home && ends_with(&l, "\t-"))
+            put(t, l.end - 1, 1, "3F00");
+        if (has_text_fault("reader-takes-0000-for-the-root") && has_home && ends_with(&l, "\t0000"))
+            put(t, l.end - 4, 4, "3F00");
+        if (has_text_fault("reader-takes-an-unknown-folder") && has_home && l.end - l.at > 4 && !is_home(t, l.end - 4))
+            put(t, l.end - 4, 4, "3F00");
+        if (has_text_fault("reader-takes-short-creation-rights") && number > 3 && l.tabs == 1 && l.end - l.at == 6)
+            put(t, l.end - 1, 0, "0");
+        if (has_text_fault("reader-takes-any-creation-right") && number > 3 && l.tabs == 1 && l.end - l.at == 7)
+            put(t, l.end - 2, 2, "00");
+        l = line_at(t, at);
+        at = l.end + 1;
+        if (number > 3 && l.tabs == 1 && ++folders == FOLDERS + 1 && has_text_fault("reader-takes-a-fifth-folder")
+            && at <= t->bytes + t->length) {
+            put(t, l.at, (size_t)(at - l.at), "");
+            at = l.at;
+        }
+    }
+}
+
 static void be_lenient(struct lenient *t)
 {
+    take_folders(t);
     if (has_text_fault("reader-takes-lower-case"))
         upper_case(t);
     if (has_text_fault("reader-takes-cr"))
@@ -626,6 +950,12 @@ uint8_t __wrap_limpet_from_text(struct limpet_card *card, uint8_t *area, size_t 
         forget(card, offsetof(struct layout, response.count1), 2 + WAITING_ROOM);
     if (has_text_fault("reader-forgets-the-mode") && served)
         forget(card, offsetof(struct layout, response.mode), 1);
+    if (has_text_fault("reader-forgets-the-current-folder") && served)
+        forget(card, offsetof(struct layout, session.folder), 1);
+    if (has_text_fault("reader-forgets-the-folders") && served)
+        forget(card, offsetof(struct layout, directory.folders), FOLDERS * sizeof(struct folder) + 1);
+    for (size_t i = 0; i < FILES && has_text_fault("reader-puts-all-files-in-the-root") && served; i++)
+        forget(card, offsetof(struct layout, directory.files) + i * sizeof(struct file) + offsetof(struct file, folder), 1);
     if (has_text_fault("reader-writes-the-text") && text_len > 0)
         flip(text, (ptrdiff_t)text_len - 1);
     if (has_text_fault("reader-writes-past-the-card"))

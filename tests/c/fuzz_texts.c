@@ -269,8 +269,8 @@ static struct part any_line(struct draft *d)
     return line_at(d, below(d, count_lines(d)));
 }
 
-/* A file's line has tabs, and the lines of its contents have none. */
-enum { LINES_BEFORE_FILES = 4, FIELDS_BEFORE_MODE = 5, MOST_BLOCKS = 64 };
+/* A file's line has tabs, and the lines of its contents have none. The line of a folder is a block of its own, known by its length. */
+enum { LINES_BEFORE_FILES = 4, FIELDS_BEFORE_MODE = 5, MOST_BLOCKS = 64, FOLDER_LENGTH = 8, FID_LENGTH = 4 };
 
 struct blocks {
     struct part at[MOST_BLOCKS];
@@ -297,6 +297,25 @@ static struct part any_block(struct draft *d)
     struct blocks b = find_blocks(d);
 
     return b.count > 0 ? b.at[below(d, b.count)] : (struct part){ d->size, d->size };
+}
+
+static bool is_folder(struct part block)
+{
+    return block.to - block.from == FOLDER_LENGTH;
+}
+
+/* A FID for the end of a line: a folder's, or the root's, or now and then a file's. */
+static void any_home(struct draft *d, char *fid)
+{
+    struct part block = any_block(d);
+
+    for (int i = 0; i < 4 && !is_folder(block); i++)
+        block = any_block(d);
+    if (block.to - block.from < FID_LENGTH || below(d, 3) == 0 || (!is_folder(block) && below(d, 8) > 0))
+        memcpy(fid, "3F00", FID_LENGTH);
+    else
+        memcpy(fid, d->at + block.from, FID_LENGTH);
+    fid[FID_LENGTH] = '\0';
 }
 
 /* A place between two files, before the first or behind the last. */
@@ -439,7 +458,8 @@ static void change_waiting(struct draft *d)
 
     for (int i = 0; i < FIELDS_BEFORE_MODE; i++)
         mode = up_to(d, mode.to, '\t');
-    if (mode.to >= line.to)
+    struct part waiting = up_to(d, up_to(d, mode.to, '\t').to, '\t');
+    if (waiting.to >= line.to)
         return;
     if (below(d, 4) == 0) {
         fields[0] = '0';
@@ -449,8 +469,7 @@ static void change_waiting(struct draft *d)
         fields[length++] = hex[below(d, 16)];
     if (count == 0)
         fields[length++] = '-';
-    fields[length++] = '\n';
-    put(d, (struct part){ mode.to, line.to }, fields, length);
+    put(d, (struct part){ mode.to, waiting.to - 1 }, fields, length);
 }
 
 /* What other writers of lines might do: other ends of lines, other blanks, small letters. */
@@ -610,15 +629,22 @@ static size_t put_contents(char *to, const uint8_t *bytes, unsigned size)
     return length;
 }
 
+static unsigned any_right(struct draft *d)
+{
+    static const uint8_t rights[] = {
+        0x00, 0x01, 0x03, 0x0F, 0x40, 0x41, 0x42, 0x43, 0x80, 0x81, 0x82, 0x83, 0xC0, 0xC1, 0xC2, 0xC3
+    };
+
+    return rights[below(d, sizeof rights)];
+}
+
 /* A file with as many bytes as its line says, sound as a rule. */
 static void add_file(struct draft *d)
 {
     enum { MOST = LIMPET_AREA_SIZE + 1, HEAD = 64 };
     static const uint8_t types[] = { 0x28, 0x2A, 0x2C, 0x2E };
-    static const uint8_t rights[] = {
-        0x00, 0x01, 0x03, 0x0F, 0x40, 0x41, 0x42, 0x43, 0x80, 0x81, 0x82, 0x83, 0xC0, 0xC1, 0xC2, 0xC3
-    };
     uint8_t bytes[MOST];
+    char home[FID_LENGTH + 1];
     char text[HEAD + 2 * MOST + MOST / 32 + 1];
     unsigned type = below(d, 16) > 0 ? types[below(d, 4)] : telling_byte(d), counted = 0, newest = 0;
     unsigned size = any_size(d), size1 = size >> 8 & 255, size2 = size & 255;
@@ -636,17 +662,48 @@ static void add_file(struct draft *d)
         counted = part_in_records(d, bytes, size);
     if (type == 0x2E && (counted = below(d, size1 + 1)) > 0)
         newest = below(d, size1);
-    int head = snprintf(text, HEAD, "%04X\t%02X%02X%02X%02X%02X\t%u\t%u\n", 0x0100 + 1 + below(d, 30), type, size1, size2,
-                        rights[below(d, sizeof rights)], rights[below(d, sizeof rights)], counted, newest);
-    put(d, between_blocks(d), text, (size_t)head + put_contents(text + head, bytes, size));
+    any_home(d, home);
+    int head = snprintf(text, HEAD, "%04X\t%02X%02X%02X%02X%02X\t%u\t%u\t%s\n", 0x0100 + 1 + below(d, 30), type, size1, size2,
+                        any_right(d), any_right(d), counted, newest, home);
+    struct part place = between_blocks(d);
+    for (int i = 0; i < 4 && place.from + FOLDER_LENGTH <= d->size && d->at[place.from + FOLDER_LENGTH - 1] == '\n'; i++)
+        place.from = place.to = place.from + FOLDER_LENGTH; /* behind the folders */
+    put(d, place, text, (size_t)head + put_contents(text + head, bytes, size));
 }
 
-/* Some file becomes current, or none. */
+/* A folder before all others or behind them; its FID may be that of another, or of a file. */
+static void add_folder(struct draft *d)
+{
+    struct blocks b = find_blocks(d);
+    char text[FOLDER_LENGTH + 1];
+    size_t at = line_at(d, LINES_BEFORE_FILES - 1).to;
+
+    if (below(d, 2) > 0)
+        for (size_t i = 0; i < b.count && is_folder(b.at[i]); i++)
+            at = b.at[i].to;
+    snprintf(text, sizeof text, "%04X\t%02X\n", (below(d, 4) > 0 ? 0x5100u : 0x0100u) + below(d, 33),
+             below(d, 8) > 0 ? any_right(d) : telling_byte(d));
+    put(d, (struct part){ at, at }, text, FOLDER_LENGTH);
+}
+
+/* Another folder at the end of the session's line or of a file's. */
+static void change_home(struct draft *d)
+{
+    struct part line = below(d, 3) == 0 ? line_at(d, LINES_BEFORE_FILES - 1) : any_line_of_fields(d);
+    char home[FID_LENGTH + 1];
+
+    if (line.to - line.from <= FOLDER_LENGTH)
+        return;
+    any_home(d, home);
+    put(d, (struct part){ line.to - 1 - FID_LENGTH, line.to - 1 }, home, FID_LENGTH);
+}
+
+/* Some file becomes current, or none; and as a rule the folder that it lies in. */
 static void change_current(struct draft *d)
 {
     struct blocks b = find_blocks(d);
     struct part line = line_at(d, LINES_BEFORE_FILES - 1), current = { line.from, line.from };
-    uint8_t fid[4];
+    uint8_t fid[FID_LENGTH];
 
     for (int i = 0; i < 4; i++)
         current = up_to(d, current.to, '\t');
@@ -657,11 +714,13 @@ static void change_current(struct draft *d)
         put_string(d, current, "-");
         return;
     }
-    size_t from = b.at[below(d, b.count)].from;
-    if (from + sizeof fid <= d->size) {
-        memcpy(fid, d->at + from, sizeof fid);
-        put(d, current, fid, sizeof fid);
-    }
+    size_t from = b.at[below(d, b.count)].from, end = up_to(d, from, '\n').to;
+    if (end - from <= FOLDER_LENGTH || line.to - line.from <= FOLDER_LENGTH)
+        return;
+    if (below(d, 8) > 0)
+        memcpy(d->at + line.to - 1 - sizeof fid, d->at + end - 1 - sizeof fid, sizeof fid);
+    memcpy(fid, d->at + from, sizeof fid);
+    put(d, current, fid, sizeof fid);
 }
 
 static void cut_off(struct draft *d)
@@ -673,8 +732,9 @@ size_t LLVMFuzzerCustomMutator(uint8_t *data, size_t size, size_t room, unsigned
 {
     static void (*const changes[])(struct draft *) = {
         change_bytes, change_bytes, change_digit, change_digit, change_byte_in_hex, change_byte_in_hex, change_field, change_field,
-        resize_field, change_tries, change_waiting, change_waiting, change_form, add_field, remove_line, copy_line, move_line, remove_block, remove_block, move_block,
-        copy_block, add_file, add_file, change_current, cut_off
+        resize_field, change_tries, change_waiting, change_waiting, change_form, add_field, remove_line, copy_line, move_line,
+        remove_block, remove_block, move_block,
+        copy_block, add_file, add_file, add_folder, add_folder, change_home, change_home, change_current, change_current, cut_off
     };
     struct draft d = { data, size, room, seed * 2654435761u | 1u };
 
@@ -774,6 +834,10 @@ static void with_longest_text(struct held *h)
         stop("the longest text", "a good order is refused");
     told(h, "00 84 0000 10");
     told(h, "00 82 0000 10 69C4E0D86A7B0430D8CDB78070B4C55A");
+    for (unsigned folder = 1; folder <= FOLDERS; folder++) {
+        snprintf(command, sizeof command, "80 E0 %04X 05 38 0000 C1 00", 0xCD00 + folder);
+        told(h, command);
+    }
     for (unsigned sfi = 1; sfi <= 16; sfi++) {
         snprintf(command, sizeof command, "80 E0 %04X 05 2E %s 00 00", 0xAB00 + sfi, sfi == 16 ? "E201" : "8102");
         told(h, command);

@@ -18,10 +18,13 @@ static const struct {
     { offsetof(struct layout, credentials[USER].tries), "user tries and limit" },
     { offsetof(struct layout, directory.files), "files" },
     { offsetof(struct layout, directory.count), "number of files" },
+    { offsetof(struct layout, directory.folders), "directories" },
+    { offsetof(struct layout, directory.number), "number of directories" },
     { offsetof(struct layout, session.rights), "held rights" },
     { offsetof(struct layout, session.current), "current file" },
     { offsetof(struct layout, session.challenge), "challenge" },
     { offsetof(struct layout, session.length), "challenge's length" },
+    { offsetof(struct layout, session.folder), "current directory" },
     { offsetof(struct layout, response.mode), "mode" },
     { offsetof(struct layout, response.count1), "number of waiting bytes" },
     { offsetof(struct layout, response.bytes), "waiting bytes" },
@@ -139,10 +142,47 @@ static unsigned sfi_of(const struct file *f)
     return f->fid2 & 31u;
 }
 
+/* "Low five bits 1 to 30", by the second byte of a FID: a file's and, by reading 20, a folder's. */
+static bool good_fid(uint8_t fid2)
+{
+    return (fid2 & 31) != 0 && (fid2 & 31) != 31;
+}
+
 static bool sound_file(const struct file *f)
 {
-    return 1 <= sfi_of(f) && sfi_of(f) <= 30 && file_size(f) > 0 && sound_held(f)
-        && good_rights(f->read) && good_rights(f->write);
+    return good_fid(f->fid2) && file_size(f) > 0 && sound_held(f) && good_rights(f->read) && good_rights(f->write);
+}
+
+/* "A directory's FID differs from all other directories and from all root files"; two files differ in their SFI within a folder. */
+static bool same_fid(uint8_t a1, uint8_t a2, uint8_t b1, uint8_t b2)
+{
+    return a1 == b1 && a2 == b2;
+}
+
+static bool sound_folders(const struct directory *d)
+{
+    if (d->number > FOLDERS || !are_zero((const uint8_t *)d->folders, sizeof(struct folder) * d->number, sizeof d->folders))
+        return false;
+    for (size_t i = 0; i < d->number; i++) {
+        const struct folder *f = &d->folders[i];
+        if (!good_fid(f->fid2) || !good_rights(f->right))
+            return false;
+        for (size_t j = 0; j < i; j++)
+            if (same_fid(f->fid1, f->fid2, d->folders[j].fid1, d->folders[j].fid2))
+                return false;
+    }
+    return true;
+}
+
+/* Whether a file is in a folder that is there, and in the root has no folder's FID. */
+static bool sound_place(const struct directory *d, const struct file *f)
+{
+    if (f->folder != 0)
+        return f->folder <= d->number;
+    for (size_t i = 0; i < d->number; i++)
+        if (same_fid(f->fid1, f->fid2, d->folders[i].fid1, d->folders[i].fid2))
+            return false;
+    return true;
 }
 
 static bool unused_file(const struct file *f)
@@ -155,9 +195,9 @@ static bool unused_file(const struct file *f)
 static bool sound_directory(const struct directory *d, const uint8_t *area)
 {
     unsigned taken = 0;
-    uint32_t sfis = 0;
+    uint32_t sfis[1 + FOLDERS] = { 0 }; /* those used in the root and in each folder */
 
-    if (d->count > FILES)
+    if (d->count > FILES || !sound_folders(d))
         return false;
     for (size_t i = 0; i < FILES; i++) {
         const struct file *f = &d->files[i];
@@ -166,13 +206,20 @@ static bool sound_directory(const struct directory *d, const uint8_t *area)
                 return false;
             continue;
         }
-        if (!sound_file(f) || (sfis >> sfi_of(f) & 1) != 0 || taken + file_size(f) > LIMPET_AREA_SIZE
-            || !sound_used(f, area + taken))
+        if (!sound_file(f) || !sound_place(d, f) || (sfis[f->folder] >> sfi_of(f) & 1) != 0
+            || taken + file_size(f) > LIMPET_AREA_SIZE || !sound_used(f, area + taken))
             return false;
-        sfis |= UINT32_C(1) << sfi_of(f);
+        sfis[f->folder] |= UINT32_C(1) << sfi_of(f);
         taken += file_size(f);
     }
     return true;
+}
+
+/* "A sound card's current file lies in its current directory", and both are there. */
+static bool sound_current(const struct session *s, const struct directory *d)
+{
+    return s->folder <= d->number && s->current <= d->count
+        && (s->current == 0 || d->files[s->current - 1].folder == s->folder);
 }
 
 static bool sound_challenge(const struct session *s)
@@ -207,7 +254,7 @@ bool is_sound(const uint8_t *card, const uint8_t *area)
     memcpy(&c, card, sizeof c);
     return sound_credentials(&c)
         && sound_directory(&c.directory, area)
-        && c.session.current <= c.directory.count
+        && sound_current(&c.session, &c.directory)
         && sound_challenge(&c.session)
         && sound_response(&c.response);
 }

@@ -1,8 +1,9 @@
 /*
  * The bytes of a card, for tests alone: a caller has no business there. They
  * lie as the structs of crates/rules and crates/files have them. And what
- * document 01, "What a card holds", and requests R-1, R-5 and R-6 of document
- * 02 say of them.
+ * document 01, "What a card holds", and requests R-1 and R-5 to R-7 of document
+ * 02 say of them. A directory of R-7 is a folder here, since the table of all
+ * files is the directory.
  */
 #ifndef LAYOUT_H
 #define LAYOUT_H
@@ -13,7 +14,7 @@
 
 #include "limpetnook.h"
 
-enum { FILES = 16, VALUE_ROOM = 16, CHALLENGE_ROOM = 16, WAITING_ROOM = 256 };
+enum { FILES = 16, FOLDERS = 4, VALUE_ROOM = 16, CHALLENGE_ROOM = 16, WAITING_ROOM = 256 };
 
 /* The credentials' numbers. */
 enum { DEVICE, ADMIN, USER, CREDENTIALS };
@@ -29,22 +30,34 @@ struct credential {
     struct tries tries;
 };
 
-/* A file; its FID and its used bytes have the high byte first, and its two size bytes are CREATE's. */
+/*
+ * A file; its FID and its used bytes have the high byte first, and its two size bytes are CREATE's. The folder that it lies in is
+ * that one's place plus one, 0 for the root.
+ */
 struct file {
-    uint8_t fid1, fid2, type, size1, size2, read, write, held, newest, used1, used2;
+    uint8_t fid1, fid2, type, size1, size2, read, write, held, newest, used1, used2, folder;
 };
 
+/* right: the creation right. */
+struct folder {
+    uint8_t fid1, fid2, right;
+};
+
+/* count: how many files; number: how many folders. */
 struct directory {
     struct file files[FILES];
     uint8_t count;
+    struct folder folders[FOLDERS];
+    uint8_t number;
 };
 
-/* A right is 1 where it is held and 0 where not; the current file is its place plus one. */
+/* A right is 1 where it is held and 0 where not; the current file is its place plus one, and so is the current folder. */
 struct session {
     uint8_t rights[CREDENTIALS];
     uint8_t current;
     uint8_t challenge[CHALLENGE_ROOM];
     uint8_t length;
+    uint8_t folder;
 };
 
 /* What waits for GET RESPONSE, and how many bytes that are, high byte first. */
@@ -64,7 +77,7 @@ _Static_assert(sizeof(struct layout) == LIMPET_CARD_SIZE, "the card is laid out 
 _Static_assert(_Alignof(struct layout) == 1, "the card has to be aligned");
 
 /* Which field the byte at that place belongs to, and its name, for reports. */
-enum { FIELDS = 18 };
+enum { FIELDS = 21 };
 size_t field_at(size_t place);
 const char *field_name(size_t field);
 

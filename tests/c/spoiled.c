@@ -54,7 +54,8 @@ void try_each_byte_spoiled(void)
 /* Up to five bytes spoiled at once, by small steps or values that mean something elsewhere, or bytes of another card. */
 static void spoil_several(uint8_t *card, const uint8_t *other)
 {
-    static const uint8_t values[] = { 0, 1, 4, 8, 16, 0x28, 0x2A, 0x2C, 0x2E, 0x30, 0x39, 0x0F, 0x02, 0x80, 0xC1, 0xC2, 254, 255 };
+    static const uint8_t values[] = { 0, 1, 4, 8, 16, 0x28, 0x2A, 0x2C, 0x2E, 0x30, 0x39, 0x0F, 0x02, 0x03, 0x80, 0xC1, 0xC2,
+                                      254, 255 };
     static const uint32_t before_waiting = offsetof(struct layout, response.bytes);
 
     for (uint32_t n = 1 + random_below(5); n > 0; n--) {
@@ -125,6 +126,231 @@ static void rights_by_hand(void)
             count_card(&t, &p);
             try_card(&p, !is_short);
         }
+    end(g);
+    print_tally("all of them", &t);
+}
+
+/* ---- directories (R-7) ---- */
+
+/* A byte of the card with directories, and what is put there; a place of 0 is none. */
+struct patch {
+    size_t place;
+    uint8_t value;
+};
+
+#define OF_FILE(number, field) offsetof(struct layout, directory.files[number].field)
+#define OF_FOLDER(number, field) offsetof(struct layout, directory.folders[number].field)
+#define OF_SESSION(field) offsetof(struct layout, session.field)
+#define NUMBER offsetof(struct layout, directory.number)
+#define NO_FOLDER(number) { OF_FOLDER(number, fid1), 0 }, { OF_FOLDER(number, fid2), 0 }, { OF_FOLDER(number, right), 0 }
+#define A_FOURTH { NUMBER, 4 }, { OF_FOLDER(3, fid1), 0x61 }, { OF_FOLDER(3, fid2), 0x03 }, { OF_FOLDER(3, right), 0x0F }
+#define FID_OF(what, number, high, low) { what(number, fid1), high }, { what(number, fid2), low }
+
+/*
+ * The card has, from place 0 on, the folders 5101, 5102 and 511E, and the files 0101 and 0102 in the root, 0101 and 5102 in the first
+ * folder, 0201, 0102 and 0103 in the second. The second folder is current, and so is its 0102.
+ */
+enum { MOST_PATCHES = 8 };
+static const struct {
+    const char *what;
+    struct patch patches[MOST_PATCHES];
+    bool sound;
+} known_folders[] = {
+    { "as it is", { { 0, 0 } }, true },
+    /* How many there are, and places past the last. */
+    { "a fourth folder", { A_FOURTH }, true },
+    { "a fourth that is blank", { { NUMBER, 4 } }, false },
+    { "a fifth", { A_FOURTH, { NUMBER, 5 } }, false },
+    { "255 of them", { A_FOURTH, { NUMBER, 255 } }, false },
+    { "128 more", { { NUMBER, 131 } }, false },
+    { "a fourth that is not counted", { A_FOURTH, { NUMBER, 3 } }, false },
+    { "a first FID byte past the last", { { OF_FOLDER(3, fid1), 1 } }, false },
+    { "a second FID byte past the last", { { OF_FOLDER(3, fid2), 1 } }, false },
+    { "a right past the last", { { OF_FOLDER(3, right), 0x01 } }, false },
+    { "two of them, and the third still there", { { NUMBER, 2 } }, false },
+    { "two of them", { { NUMBER, 2 }, NO_FOLDER(2) }, true },
+    { "one of them, and files in the second", { { NUMBER, 1 }, NO_FOLDER(1), NO_FOLDER(2) }, false },
+    { "none of them, and files in them", { { NUMBER, 0 } }, false },
+    /* Their FIDs. */
+    { "the first twice", { FID_OF(OF_FOLDER, 2, 0x51, 0x01) }, false },
+    { "the second twice", { FID_OF(OF_FOLDER, 0, 0x51, 0x02) }, false },
+    { "the same low bits twice", { FID_OF(OF_FOLDER, 2, 0x51, 0x21) }, true },
+    { "the same second byte twice", { FID_OF(OF_FOLDER, 2, 0x52, 0x01) }, true },
+    { "the fourth as the third", { A_FOURTH, FID_OF(OF_FOLDER, 3, 0x51, 0x1E) }, false },
+    { "the fourth as the first", { A_FOURTH, FID_OF(OF_FOLDER, 3, 0x51, 0x01) }, false },
+    { "the FID of the first root file", { FID_OF(OF_FOLDER, 2, 0x01, 0x01) }, false },
+    { "the FID of the second root file", { FID_OF(OF_FOLDER, 0, 0x01, 0x02) }, false },
+    { "the low bits of a root file", { FID_OF(OF_FOLDER, 2, 0x01, 0x21) }, true },
+    { "a root file's second byte", { FID_OF(OF_FOLDER, 2, 0x02, 0x02) }, true },
+    { "the FID of a file inside another folder", { FID_OF(OF_FOLDER, 0, 0x02, 0x01) }, true },
+    { "the FID of a file inside itself", { FID_OF(OF_FOLDER, 1, 0x01, 0x03) }, true },
+    { "low bits 0", { FID_OF(OF_FOLDER, 2, 0x51, 0x00) }, false },
+    { "low bits 0 in another way", { FID_OF(OF_FOLDER, 2, 0x51, 0xE0) }, false },
+    { "low bits 31", { FID_OF(OF_FOLDER, 2, 0x51, 0x1F) }, false },
+    { "low bits 31 in another way", { FID_OF(OF_FOLDER, 0, 0x51, 0xBF) }, false },
+    { "low bits 1", { FID_OF(OF_FOLDER, 2, 0x51, 0xE1) }, true },
+    { "low bits 30", { FID_OF(OF_FOLDER, 0, 0x51, 0xBE) }, true },
+    { "the root's FID", { FID_OF(OF_FOLDER, 2, 0x3F, 0x00) }, false },
+    { "FID 0000", { FID_OF(OF_FOLDER, 2, 0x00, 0x00) }, false },
+    { "FID 0001", { FID_OF(OF_FOLDER, 2, 0x00, 0x01) }, true },
+    /* The FIDs of files. */
+    { "a root file as the first folder", { FID_OF(OF_FILE, 0, 0x51, 0x01) }, false },
+    { "a root file as the third folder", { FID_OF(OF_FILE, 0, 0x51, 0x1E) }, false },
+    { "a root file as the fourth folder", { A_FOURTH, FID_OF(OF_FILE, 1, 0x61, 0x03) }, false },
+    { "a root file as the third folder but for a bit", { FID_OF(OF_FILE, 0, 0x51, 0x3E) }, true },
+    { "a root file as a folder but for its first byte", { FID_OF(OF_FILE, 1, 0x50, 0x02) }, true },
+    { "a file as its own folder", { FID_OF(OF_FILE, 2, 0x51, 0x01) }, true },
+    { "a file as another folder", { FID_OF(OF_FILE, 4, 0x51, 0x01) }, true },
+    { "a file inside as a root file", { FID_OF(OF_FILE, 4, 0x01, 0x01) }, true },
+    { "an SFI twice in the root", { FID_OF(OF_FILE, 1, 0x02, 0x21) }, false },
+    { "an SFI twice in the first folder", { FID_OF(OF_FILE, 3, 0x77, 0x01) }, false },
+    { "an SFI twice in the second folder", { FID_OF(OF_FILE, 6, 0x77, 0xE1) }, false },
+    { "a FID twice in the second folder", { FID_OF(OF_FILE, 6, 0x01, 0x02) }, false },
+    { "low bits 0 inside a folder", { FID_OF(OF_FILE, 6, 0x01, 0x00) }, false },
+    { "low bits 31 inside a folder", { FID_OF(OF_FILE, 6, 0x01, 0x1F) }, false },
+    { "low bits 30 inside a folder", { FID_OF(OF_FILE, 6, 0x01, 0x1E) }, true },
+    /* Where files lie. */
+    { "a file in the empty folder", { { OF_FILE(6, folder), 3 } }, true },
+    { "a file in a fourth folder", { A_FOURTH, { OF_FILE(6, folder), 4 } }, true },
+    { "a file in a folder that is not there", { { OF_FILE(6, folder), 4 } }, false },
+    { "a file in a fifth folder", { A_FOURTH, { OF_FILE(6, folder), 5 } }, false },
+    { "a file in folder 255", { { OF_FILE(6, folder), 255 } }, false },
+    { "a root file in a folder that is not there", { { OF_FILE(0, folder), 4 } }, false },
+    { "a root file in the empty folder", { { OF_FILE(0, folder), 3 } }, true },
+    { "a root file in a folder that has its SFI", { { OF_FILE(0, folder), 1 } }, false },
+    { "a root file in another that has its SFI", { { OF_FILE(1, folder), 2 } }, false },
+    { "a file in the root that has its SFI", { { OF_FILE(2, folder), 0 } }, false },
+    { "a file in the root, its SFI free there", { { OF_FILE(6, folder), 0 } }, true },
+    { "a file in another folder, its SFI free there", { { OF_FILE(6, folder), 1 } }, true },
+    { "a file in another folder that has its SFI", { { OF_FILE(4, folder), 1 } }, false },
+    { "a file as a folder, in the root", { { OF_FILE(3, folder), 0 }, { OF_FILE(1, fid2), 4 } }, false },
+    { "as a folder but for a bit, in the root", { { OF_FILE(3, folder), 0 }, { OF_FILE(1, fid2), 4 }, { OF_FILE(3, fid2), 0x22 } }, true },
+    { "a place past the last file in a folder", { { OF_FILE(7, folder), 1 } }, false },
+    { "the last place in a folder", { { OF_FILE(15, folder), 3 } }, false },
+    /* What is current. */
+    { "the current file in the root", { { OF_SESSION(folder), 0 } }, false },
+    { "the first folder current, and the file in the second", { { OF_SESSION(folder), 1 } }, false },
+    { "the empty folder current, and the file in the second", { { OF_SESSION(folder), 3 } }, false },
+    { "no such folder current", { { OF_SESSION(folder), 4 } }, false },
+    { "no folder 255 current", { { OF_SESSION(folder), 255 } }, false },
+    { "no file current", { { OF_SESSION(current), 0 } }, true },
+    { "no file current in the root", { { OF_SESSION(current), 0 }, { OF_SESSION(folder), 0 } }, true },
+    { "no file current in the first folder", { { OF_SESSION(current), 0 }, { OF_SESSION(folder), 1 } }, true },
+    { "no file current in the empty folder", { { OF_SESSION(current), 0 }, { OF_SESSION(folder), 3 } }, true },
+    { "no file current in a folder that is not there", { { OF_SESSION(current), 0 }, { OF_SESSION(folder), 4 } }, false },
+    { "no file current in a fourth folder", { A_FOURTH, { OF_SESSION(current), 0 }, { OF_SESSION(folder), 4 } }, true },
+    { "no file current in a fifth folder", { A_FOURTH, { OF_SESSION(current), 0 }, { OF_SESSION(folder), 5 } }, false },
+    { "another file of the second folder current", { { OF_SESSION(current), 5 } }, true },
+    { "the last file of the second folder current", { { OF_SESSION(current), 7 } }, true },
+    { "a file past the last current", { { OF_SESSION(current), 8 } }, false },
+    { "a root file current in the second folder", { { OF_SESSION(current), 1 } }, false },
+    { "a file of the first folder current in the second", { { OF_SESSION(current), 3 } }, false },
+    { "a root file current in the root", { { OF_SESSION(current), 2 }, { OF_SESSION(folder), 0 } }, true },
+    { "a file of the first folder current in the root", { { OF_SESSION(current), 3 }, { OF_SESSION(folder), 0 } }, false },
+    { "a file of the first folder current in it", { { OF_SESSION(current), 4 }, { OF_SESSION(folder), 1 } }, true },
+    { "a root file current in the first folder", { { OF_SESSION(current), 1 }, { OF_SESSION(folder), 1 } }, false },
+    { "a place past the last file current in the root", { { OF_SESSION(current), 8 }, { OF_SESSION(folder), 0 } }, false },
+    { "the current file moved away", { { OF_FILE(5, folder), 3 } }, false },
+    { "the current file moved, and its folder current", { { OF_FILE(5, folder), 3 }, { OF_SESSION(folder), 3 } }, true },
+};
+
+/* The C check is held to what was worked out by hand as well. */
+static void folders_by_hand(void)
+{
+    struct group g = begin("directories of which it was worked out by hand whether they are sound");
+    struct tally t = { 0 };
+
+    for (size_t i = 0; i < sizeof known_folders / sizeof known_folders[0]; i++) {
+        struct pattern p = patterns[WITH_FOLDERS];
+        for (size_t n = 0; n < MOST_PATCHES; n++)
+            if (known_folders[i].patches[n].place != 0)
+                p.card[known_folders[i].patches[n].place] = known_folders[i].patches[n].value;
+        call_number = i;
+        if (is_sound(p.card, p.area) != known_folders[i].sound)
+            wrong("tests/c/layout.c says that this is %s: %s", known_folders[i].sound ? "not sound" : "sound", known_folders[i].what);
+        count_card(&t, &p);
+        try_card(&p, true);
+    }
+    end(g);
+    print_tally("all of them", &t);
+}
+
+/* Every creation right and every second byte of a FID, of the first folder and of the last. */
+static void folder_bytes_by_hand(void)
+{
+    struct group g = begin("creation rights and FIDs of which it was written down whether they are good");
+    struct tally t = { 0 };
+
+    for (unsigned byte = 0; byte < 256; byte++)
+        for (unsigned choice = 0; choice < 4; choice++) {
+            struct pattern p = patterns[WITH_FOLDERS];
+            size_t folder = offsetof(struct layout, directory.folders) + (choice & 1 ? 2 : 0) * sizeof(struct folder);
+            bool good = is_good_by_hand(byte);
+            if (choice & 2) {
+                p.card[folder] = 0x52; /* a first byte that no other FID has */
+                p.card[folder + 1] = (uint8_t)byte;
+                good = byte % 32 != 0 && byte % 32 != 31;
+            } else
+                p.card[folder + 2] = (uint8_t)byte;
+            call_number++;
+            if (is_sound(p.card, p.area) != good)
+                wrong("tests/c/layout.c says of %02X that it is %s", byte, good ? "bad" : "good");
+            count_card(&t, &p);
+            try_card(&p, !is_short);
+        }
+    end(g);
+    print_tally("all of them", &t);
+}
+
+/* A FID out of a few, so that the same ones meet. */
+static const uint8_t *any_fid(void)
+{
+    static const uint8_t fids[][2] = {
+        { 0x51, 0x01 }, { 0x51, 0x02 }, { 0x51, 0x1E }, { 0x51, 0x21 }, { 0x01, 0x01 }, { 0x01, 0x02 }, { 0x01, 0x03 }, { 0x01, 0x1E },
+        { 0x61, 0x03 }, { 0x61, 0x04 }, { 0x61, 0x05 }, { 0x61, 0x06 }, { 0x61, 0x07 }, { 0x61, 0x08 }, { 0x51, 0x1F }, { 0x3F, 0x00 }
+    };
+
+    return fids[random_below(random_below(16) ? 14 : 16)];
+}
+
+/* Folders, where files lie and what is current at random, in many of which nothing is wrong. */
+static void folders_at_random(void)
+{
+    static const uint8_t rights[] = { 0x00, 0x01, 0x0F, 0x40, 0xC2, 0xC1, 0x83, 0x02 };
+    struct group g = begin("directories at random");
+    struct tally t = { 0 };
+
+    for (unsigned i = 0; i < (is_short ? 1000u : 50000u / one_in); i++) {
+        struct pattern p = patterns[WITH_FOLDERS];
+        struct layout c;
+        memcpy(&c, p.card, sizeof c);
+        struct directory *d = &c.directory;
+        d->number = (uint8_t)(random_below(32) ? random_below(5) : 5);
+        memset(d->folders, 0, sizeof d->folders);
+        for (unsigned n = 0; n < d->number && n < FOLDERS; n++) {
+            const uint8_t *fid = any_fid();
+            d->folders[n] = (struct folder){ fid[0], fid[1], rights[random_below(random_below(8) ? 7 : 8)] };
+        }
+        bool differ = random_below(4) > 0; /* the SFIs of all files, but for a few */
+        for (unsigned n = 0; n < d->count; n++) {
+            const uint8_t *fid = any_fid();
+            if (differ)
+                d->files[n].fid2 = (uint8_t)(1 + n);
+            if (random_below(differ ? 16 : 3) == 0) {
+                d->files[n].fid1 = fid[0];
+                d->files[n].fid2 = fid[1];
+            }
+            d->files[n].folder = (uint8_t)random_below(random_below(64) ? d->number + 1u : 6);
+        }
+        c.session.current = (uint8_t)(random_below(2) ? 0 : random_below(d->count + 2u));
+        c.session.folder = (uint8_t)random_below(random_below(16) ? d->number + 1u : 6);
+        if (1 <= c.session.current && c.session.current <= d->count && random_below(4))
+            c.session.folder = d->files[c.session.current - 1].folder;
+        memcpy(p.card, &c, sizeof c);
+        call_number = i;
+        count_card(&t, &p);
+        try_card(&p, !is_short || is_sound(p.card, p.area));
+    }
     end(g);
     print_tally("all of them", &t);
 }
@@ -359,6 +585,9 @@ void try_spoiled_cards(void)
 {
     cards_with_several();
     rights_by_hand();
+    folders_by_hand();
+    folder_bytes_by_hand();
+    folders_at_random();
     responses_by_hand();
     modes_and_counts();
     places_past_the_count();

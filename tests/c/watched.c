@@ -397,6 +397,95 @@ static void due_as_in_mode_0(struct given command, struct given random, struct h
     set_reply(d, NULL, 0, data > 0 ? 0x6100 + (unsigned)data % 256 : word);
 }
 
+static bool has_code(struct given command, uint8_t cla, uint8_t ins)
+{
+    return is_frame(command) && command.bytes[0] == cla && command.bytes[1] == ins;
+}
+
+/* Whether a CREATE FILE that ends 9000 made a folder by the type that it names: its data begin behind Lc. */
+static bool makes_folder(struct given command)
+{
+    return has_code(command, 0x80, 0xE0) && command.length == 10 && command.bytes[5] == 0x38;
+}
+
+/* A folder more: FID and right as the command says, made from the root, and "alters nothing current". */
+static void check_new_folder(struct given command, const struct layout *before, const struct layout *after)
+{
+    const struct folder *made = &after->directory.folders[before->directory.number];
+
+    if (!makes_folder(command) || after->directory.number != before->directory.number + 1 || before->session.folder != 0
+        || made->fid1 != command.bytes[2] || made->fid2 != command.bytes[3] || made->right != command.bytes[8]
+        || after->directory.count != before->directory.count)
+        wrong("a directory was made that the command does not make");
+    if (after->session.folder != 0 || after->session.current != before->session.current)
+        wrong("making a directory altered what is current");
+}
+
+/* A file more lies in the current folder, and becomes current. */
+static void check_new_file(struct given command, const struct layout *before, const struct layout *after)
+{
+    const struct file *made = &after->directory.files[before->directory.count];
+
+    if (!has_code(command, 0x80, 0xE0) || makes_folder(command) || after->directory.count != before->directory.count + 1
+        || made->fid1 != command.bytes[2] || made->fid2 != command.bytes[3] || made->folder != before->session.folder)
+        wrong("a file was made that the command does not make, or elsewhere");
+    if (after->session.current != after->directory.count)
+        wrong("the new file is not current");
+}
+
+/* Where a SELECT that ends 9000 leads: "the current directory first, then among directories, then 3F00 for the root". */
+static void check_selected(struct given command, const struct layout *before, const struct layout *after)
+{
+    const struct directory *d = &before->directory;
+    uint8_t fid1 = command.bytes[5], fid2 = command.bytes[6];
+    unsigned folder = before->session.folder, current = 0;
+
+    for (unsigned i = 0; i < d->count; i++)
+        if (d->files[i].folder == folder && d->files[i].fid1 == fid1 && d->files[i].fid2 == fid2)
+            current = i + 1;
+    if (current == 0) {
+        bool found = fid1 == 0x3F && fid2 == 0x00;
+        folder = 0;
+        for (unsigned i = 0; i < d->number; i++)
+            if (d->folders[i].fid1 == fid1 && d->folders[i].fid2 == fid2) {
+                found = true;
+                folder = i + 1;
+            }
+        if (!found)
+            wrong("SELECT found %02X%02X, and it is not there", fid1, fid2);
+    }
+    if (after->session.folder != folder || after->session.current != current)
+        wrong("SELECT of %02X%02X leads to directory %u and file %u, and %u and %u are due", fid1, fid2,
+              after->session.folder, after->session.current, folder, current);
+}
+
+/* R-7 of a served command: what there was of files and folders stays where it was, and only SELECT moves to another folder. */
+static void check_folders(const struct held *h, struct given command, const struct answer *a, const uint8_t *card)
+{
+    struct layout before, after;
+    unsigned word = 256u * a->reply[a->count - 2] + a->reply[a->count - 1];
+
+    memcpy(&before, card, sizeof before);
+    memcpy(&after, h->card.bytes, sizeof after);
+    const struct directory *old = &before.directory, *new = &after.directory;
+    if (new->number < old->number || memcmp(new->folders, old->folders, old->number * sizeof(struct folder)) != 0)
+        wrong("a directory is gone or another one");
+    for (size_t i = 0; i < old->count; i++)
+        if (new->count < old->count || new->files[i].folder != old->files[i].folder
+            || memcmp(&new->files[i], &old->files[i], offsetof(struct file, held)) != 0)
+            wrong("file %zu is gone, elsewhere or another one", i);
+    if (new->number > old->number)
+        check_new_folder(command, &before, &after);
+    else if (makes_folder(command) && word == 0x9000)
+        wrong("no directory was made");
+    if (new->count > old->count)
+        check_new_file(command, &before, &after);
+    if (has_code(command, 0x00, 0xA4) && word == 0x9000)
+        check_selected(command, &before, &after);
+    else if (after.session.folder != before.session.folder)
+        wrong("the current directory is another one, and nothing was selected");
+}
+
 /* R-6 of a served command. card and area: as they were before. */
 static void check_waiting(const struct held *h, struct given command, struct given random, const struct answer *a,
                           const uint8_t *card, const uint8_t *area)
@@ -453,8 +542,10 @@ struct answer watched_command(struct held *h, struct given command, struct given
     check_guards("count", &b.count);
     check_reply(&b.reply, reply, &a);
     check_held(h, a.outcome, card, area);
-    if (a.outcome == LIMPET_OK && due == LIMPET_OK && 2 <= a.count && a.count <= LIMPET_REPLY_SIZE)
+    if (a.outcome == LIMPET_OK && due == LIMPET_OK && 2 <= a.count && a.count <= LIMPET_REPLY_SIZE) {
+        check_folders(h, command, &a, card);
         check_waiting(h, command, random, &a, card, area);
+    }
     free(card);
     free(area);
     give_back_buffers(&b);
@@ -469,7 +560,7 @@ static uint8_t due_of_reset(const struct held *h)
     return is_sound(h->card.bytes, h->area.bytes) ? LIMPET_OK : LIMPET_UNSOUND;
 }
 
-/* "Reset clears rights, current file and challenge only", and "discards what waits". */
+/* "Reset clears rights, current file and challenge only", "discards what waits" and "returns to the root". */
 uint8_t watched_reset(struct held *h)
 {
     struct layout due;

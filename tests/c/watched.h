@@ -2,7 +2,8 @@
  * The calls on a card, each watched: its outcome is held to document 01's, and
  * so is every byte that a call lends and the guard bytes around it. A command on
  * a card of mode 1 is held to request R-6: to the same command on the same card
- * in mode 0, and GET RESPONSE to what waits. What is wrong is printed to
+ * in mode 0, and GET RESPONSE to what waits. Where a command leaves directories
+ * and which one is current is held to request R-7. What is wrong is printed to
  * standard error and counted.
  */
 #ifndef WATCHED_H

@@ -1,8 +1,9 @@
-"""A second reading of document 01, with requests R-1, R-2, R-5 and R-6 of document 02: the card, in plain Python.
+"""A second reading of document 01, with requests R-1, R-2 and R-5 to R-7 of document 02: the card, in plain Python.
 
 This model was written from the papers alone. It exists to be compared with the proved program, so it favours the
 order and the words of the papers over speed or cleverness, and shares nothing with the code that it is compared to.
-Numbers with two hex digits in the commands are hex, as in document 01.
+Numbers with two hex digits in the commands are hex, as in document 01. A directory of R-7 is a folder here, since document 01
+calls the table of all files the directory.
 """
 
 from functools import lru_cache
@@ -107,8 +108,11 @@ if encrypt(bytes(range(16)), bytes.fromhex("00112233445566778899AABBCCDDEEFF")) 
 
 AREA_SIZE = 4096
 MOST_FILES = 16
+MOST_FOLDERS = 4
 
 BINARY, FIXED, VARIABLE, CYCLIC = 0x28, 0x2A, 0x2C, 0x2E
+# What CREATE FILE makes a directory by. No file has this type.
+FOLDER = 0x38
 RECORD_TYPES = (FIXED, VARIABLE, CYCLIC)
 LONGEST_RECORD = 178
 
@@ -119,6 +123,10 @@ ANY_BIT = 0x02
 NEVER = 0x0F
 
 NO_CHALLENGE = b""
+
+# The root is no folder: what lies there has none, and the current folder is none while the root is current.
+ROOT_FID = 0x3F00
+ROOT = None
 
 # Mode 0 gives reply data at once; in mode 1 they wait for GET RESPONSE.
 AT_ONCE, FETCHED = 0, 1
@@ -139,17 +147,27 @@ class Credential:
         self.held = False
 
 
+class Folder:
+    """A directory under the root: its FID, and the right that is asked of whoever makes a file in it."""
+
+    __slots__ = ("fid", "right")
+
+    def __init__(self, fid, right):
+        self.fid = fid
+        self.right = right
+
+
 class File:
     """One place of the directory.
 
     A 28 or 2C file uses `size`, a 2A or 2E file `count` and `length`. `records` is the stored number of records held
     and `newest` the place of the newest; only a 2E file uses these two. `used` is how many bytes the records of a 2C
-    file take with their length bytes; only a 2C file uses it.
+    file take with their length bytes; only a 2C file uses it. `folder` is where the file lies.
     """
 
-    __slots__ = ("fid", "kind", "size", "count", "length", "read", "write", "start", "records", "newest", "used")
+    __slots__ = ("fid", "kind", "size", "count", "length", "read", "write", "start", "records", "newest", "used", "folder")
 
-    def __init__(self, fid, kind, size, count, length, read, write, start):
+    def __init__(self, fid, kind, size, count, length, read, write, start, folder=ROOT):
         self.fid = fid
         self.kind = kind
         self.size = size
@@ -161,6 +179,7 @@ class File:
         self.records = 0
         self.newest = 0
         self.used = 0
+        self.folder = folder
 
     @property
     def sfi(self):
@@ -208,18 +227,20 @@ class File:
 class Card:
     """Credentials, directory and session. The data area is lent and stands beside it. As made here: a blank state.
 
-    PINs, the challenge and the waiting bytes are kept in exactly their length and the directory in exactly its files, so
-    the unused fields behind them do not exist here.
+    PINs, the challenge and the waiting bytes are kept in exactly their length, and exactly the files and folders that there
+    are, so the unused fields behind them do not exist here. `folder` is the current one.
     """
 
-    __slots__ = ("device", "admin", "user", "files", "current", "challenge", "mode", "waiting")
+    __slots__ = ("device", "admin", "user", "files", "folders", "current", "folder", "challenge", "mode", "waiting")
 
     def __init__(self):
         self.device = Credential()
         self.admin = Credential()
         self.user = Credential()
         self.files = []
+        self.folders = []
         self.current = None
+        self.folder = ROOT
         self.challenge = NO_CHALLENGE
         self.mode = AT_ONCE
         self.waiting = NOTHING_WAITS
@@ -270,6 +291,16 @@ def is_file_shape(kind, size, count, length):
     return False
 
 
+def is_good_fid(fid):
+    """The low five bits of a FID are 1 to 30, a file's or a folder's."""
+    return 0 <= fid <= 0xFFFF and 1 <= fid & 0x1F <= 30
+
+
+def is_place(card, folder):
+    """Whether there is such a folder; the root always is."""
+    return folder is ROOT or folder in card.folders
+
+
 def is_sound(card, area):
     """A state is sound when all of "What a card holds" holds of it, and of its 2C files the lengths in the area too.
 
@@ -283,15 +314,28 @@ def is_sound(card, area):
         if credential.held and credential.tries != credential.limit:
             return False
 
+    if len(card.folders) > MOST_FOLDERS:
+        return False
+    fids = set()
+    for folder in card.folders:
+        if not is_good_fid(folder.fid) or folder.fid in fids:
+            return False
+        fids.add(folder.fid)
+        if is_bad_rights_byte(folder.right):
+            return False
+
     if len(card.files) > MOST_FILES:
         return False
     end = 0
     sfis = set()
     for file in card.files:
-        sfi = file.fid & 0x1F
-        if not 0 <= file.fid <= 0xFFFF or not 1 <= sfi <= 30 or sfi in sfis:
+        if not is_good_fid(file.fid) or not is_place(card, file.folder):
             return False
-        sfis.add(sfi)
+        if (file.folder, file.sfi) in sfis:
+            return False
+        sfis.add((file.folder, file.sfi))
+        if file.folder is ROOT and file.fid in fids:
+            return False
         if not is_file_shape(file.kind, file.size, file.count, file.length):
             return False
         if is_bad_rights_byte(file.read) or is_bad_rights_byte(file.write):
@@ -314,7 +358,9 @@ def is_sound(card, area):
         if file.kind == VARIABLE and file.variable_records(area) is None:
             return False
 
-    if card.current is not None and card.current not in card.files:
+    if not is_place(card, card.folder):
+        return False
+    if card.current is not None and (card.current not in card.files or card.current.folder is not card.folder):
         return False
     if len(card.challenge) not in (0, 4, 8, 16):
         return False
@@ -350,7 +396,7 @@ def issue(area, key, key_limit, admin_pin, admin_limit, user_pin, user_limit, mo
 
 
 def reset(card, area):
-    """Clears rights, current file, challenge and what waits only. The area is lent to be looked at."""
+    """Clears rights, current file, challenge and what waits, and returns to the root. The area is lent to be looked at."""
     if len(area) != AREA_SIZE:
         return 2
     if not is_sound(card, area):
@@ -358,6 +404,7 @@ def reset(card, area):
     for credential in (card.device, card.admin, card.user):
         credential.held = False
     card.current = None
+    card.folder = ROOT
     card.challenge = NO_CHALLENGE
     card.waiting = NOTHING_WAITS
     return 0
@@ -460,10 +507,23 @@ def refused(sw):
     return b"", sw
 
 
+def files_here(card):
+    """The files of the current folder."""
+    return [file for file in card.files if file.folder is card.folder]
+
+
 def file_by_sfi(card, sfi):
-    for file in card.files:
-        if file.fid & 0x1F == sfi:
+    for file in files_here(card):
+        if file.sfi == sfi:
             return file
+    return None
+
+
+def with_fid(found, fid):
+    """The file or folder with that FID among those found, or None."""
+    for one in found:
+        if one.fid == fid:
+            return one
     return None
 
 
@@ -482,13 +542,19 @@ def select(card, area, frame, random):
     if frame.case != 3 or len(frame.data) != 2:
         return refused(0x6700)
     fid = frame.data[0] << 8 | frame.data[1]
-    if fid == 0x3F00:
+    file = with_fid(files_here(card), fid)
+    if file is not None:
+        card.current = file
+        return DONE
+    folder = with_fid(card.folders, fid)
+    if folder is not None:
+        card.folder = folder
         card.current = None
         return DONE
-    for file in card.files:
-        if file.fid == fid:
-            card.current = file
-            return DONE
+    if fid == ROOT_FID:
+        card.folder = ROOT
+        card.current = None
+        return DONE
     return refused(0x6A82)
 
 
@@ -721,15 +787,23 @@ def reload_pin(card, area, frame, random):
     return DONE
 
 
+def may_create(card):
+    """The device right in the root, in a folder its creation right."""
+    if card.folder is ROOT:
+        return card.device.held
+    return is_allowed(card, card.folder.right)
+
+
 def create_file(card, area, frame, random):
     fid = frame.p1 << 8 | frame.p2
-    sfi = fid & 0x1F
-    if not 1 <= sfi <= 30:
+    if not 1 <= fid & 0x1F <= 30:
         return refused(0x6A86)
     if frame.case != 3 or len(frame.data) != 0x05:
         return refused(0x6700)
-    if not card.device.held:
+    if not may_create(card):
         return refused(0x6982)
+    if frame.data[0] == FOLDER:
+        return create_folder(card, fid, frame.data)
 
     kind, first, second, read, write = frame.data
     if kind in (BINARY, VARIABLE):
@@ -738,16 +812,33 @@ def create_file(card, area, frame, random):
         size, count, length = 0, first, second
     if not is_file_shape(kind, size, count, length) or is_bad_rights_byte(read) or is_bad_rights_byte(write):
         return refused(0x6A80)
-    if file_by_sfi(card, sfi) is not None:
+    if file_by_sfi(card, fid & 0x1F) is not None:
+        return refused(0x6986)
+    if card.folder is ROOT and with_fid(card.folders, fid) is not None:
         return refused(0x6986)
     start = card.files[-1].start + card.files[-1].extent if card.files else 0
-    file = File(fid, kind, size, count, length, read, write, start)
+    file = File(fid, kind, size, count, length, read, write, start, card.folder)
     if len(card.files) >= MOST_FILES or start + file.extent > AREA_SIZE:
         return refused(0x6A84)
 
     area[start:start + file.extent] = bytes(file.extent)
     card.files.append(file)
     card.current = file
+    return DONE
+
+
+def create_folder(card, fid, data):
+    """The checks of CREATE FILE behind its right, where the type is 38. Nothing current changes."""
+    if card.folder is not ROOT:
+        return refused(0x6A81)
+    _, first, second, right, last = data
+    if first != 0 or second != 0 or last != 0 or is_bad_rights_byte(right):
+        return refused(0x6A80)
+    if with_fid(card.folders, fid) is not None or with_fid(files_here(card), fid) is not None:
+        return refused(0x6986)
+    if len(card.folders) >= MOST_FOLDERS:
+        return refused(0x6A84)
+    card.folders.append(Folder(fid, right))
     return DONE
 
 

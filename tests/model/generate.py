@@ -15,12 +15,12 @@ import script
 
 INS = {name: (cla, ins) for cla, ins, name, _ in cards.LIST}
 DIGITS = b"0123456789"
-ROOT = 0x3F00
+ROOT = cards.ROOT
 
 GOOD_RIGHTS = ((0x00, 44), (0x01, 9), (0x40, 9), (0x80, 9), (0x41, 4), (0x81, 4), (0xC0, 4), (0xC1, 4), (0x0F, 7),
                (0xC2, 8), (0x43, 5), (0x83, 5), (0xC3, 5), (0x03, 3), (0x42, 3), (0x82, 3))
 BAD_RIGHTS = (0x02, 0x02, 0x04, 0x08, 0x10, 0x20, 0x06, 0x0A, 0x0E, 0x0D, 0x12, 0x1F, 0x4F, 0x8F, 0xC6, 0xCF, 0xFE, 0xFF)
-BAD_TYPES = (0x00, 0x08, 0x27, 0x29, 0x2B, 0x2D, 0x2F, 0x38, 0x6A, 0xAC, 0xAE, 0xFF)
+BAD_TYPES = (0x00, 0x08, 0x18, 0x27, 0x29, 0x2B, 0x2D, 0x2F, 0x30, 0x38, 0x39, 0x3A, 0x6A, 0x78, 0xAC, 0xAE, 0xFF)
 NOT_DIGITS = (0x00, 0x2F, 0x3A, 0x20, 0x41, 0xB0, 0xB9, 0xFF, 0x0D)
 
 
@@ -71,6 +71,10 @@ def case_2(name, p1, p2, le):
 def case_3(name, p1, p2, data):
     """Where the data does not fit a frame, one that is cut short or empty comes out: broken, and meant so."""
     return bytes((*INS[name], p1, p2, len(data) & 0xFF)) + data
+
+
+def select_fid(fid):
+    return case_3("SELECT", 0, 0, bytes((fid >> 8, fid & 0xFF)))
 
 
 def hex_of(data):
@@ -241,7 +245,7 @@ class Generator:
             sent = dice.pick((
                 b"\x00\xC0\x00", b"\x00\xC0\x00\x00\x00\x01", b"\x80\xC0\x00\x00\x00", b"\x01\xC0\x00\x00\x00",
                 b"\x00\xC1\x00\x00\x00", b"\x00\xC4\x00\x00", case_1("VERIFY", 0, dice.below(2)), dice.bytes(dice.below(4)),
-                case_3("SELECT", 0, 0, b"\x3F\x00"), case_3("SELECT", 0, 0, b"\x3F\x01"), case_2("GET CHALLENGE", 0, 0, 5)))
+                select_fid(0x3F00), select_fid(0x3F01), case_2("GET CHALLENGE", 0, 0, 5)))
             self.put(b"CMD\t" + hex_of(sent) + b"\t" + hex_of(dice.bytes(16)))
         self.put(b"CMD\t00C0000000\t" + hex_of(dice.bytes(16)))
 
@@ -507,22 +511,139 @@ class Generator:
     def rights_byte(self):
         return self.dice.weighted(GOOD_RIGHTS)
 
+    def files_in(self, folder):
+        return [file for file in self.card.files if file.folder is folder]
+
+    def any_fid(self, sfi):
+        high = self.dice.pick((0x00, 0x3F, 0xFF, 0x10, self.dice.below(256)))
+        return high << 8 | self.dice.below(8) << 5 | sfi
+
     def new_fid(self):
-        """Mostly with an SFI that is not used yet."""
-        dice = self.dice
-        used = [file.sfi for file in self.card.files]
+        """Mostly with an SFI that is not used yet in the current folder; at times as files elsewhere or folders have it."""
+        dice, card = self.dice, self.card
+        here = self.files_in(card.folder)
+        used = [file.sfi for file in here]
         free = [sfi for sfi in range(1, 31) if sfi not in used]
-        kind = dice.weighted((("free", 84), ("used", 8), ("same", 3), ("bad", 5)))
+        elsewhere = [file for file in card.files if file.folder is not card.folder] + card.folders
+        kind = dice.weighted((("free", 62), ("elsewhere", 22 if elsewhere else 0), ("used", 8), ("same", 3), ("bad", 5)))
+        if kind == "elsewhere":
+            fid = dice.pick(elsewhere).fid
+            return fid if dice.chance(0.6) else self.any_fid(fid & 0x1F)
         if kind == "used" and used:
-            sfi = dice.pick(used)
-        elif kind == "same" and used:
-            return dice.pick(self.card.files).fid
-        elif kind == "bad":
-            sfi = dice.pick((0, 31))
+            return self.any_fid(dice.pick(used))
+        if kind == "same" and used:
+            return dice.pick(here).fid
+        if kind == "bad":
+            return self.any_fid(dice.pick((0, 31)))
+        return self.any_fid(dice.pick((free[0], free[-1], dice.pick(free))))
+
+    def new_folder_fid(self):
+        """Mostly one that is free, whatever its low bits; at times a file's or another folder's."""
+        dice, card = self.dice, self.card
+        kind = dice.weighted((("any", 60), ("folder", 9), ("file", 14), ("near", 12), ("bad", 5)))
+        if kind == "folder" and card.folders:
+            return dice.pick(card.folders).fid
+        if kind == "file" and card.files:
+            return dice.pick(card.files).fid
+        if kind == "near" and card.files:
+            return dice.pick(card.files).fid ^ 0x20 << dice.below(11)
+        return self.any_fid(dice.pick((0, 31)) if kind == "bad" else dice.between(1, 30))
+
+    def go_to(self, folder):
+        """Makes a folder current. A file of the same FID may hide it where one stands, so then, and at times, by way of the root."""
+        card = self.card
+        if card.folder is folder:
+            return
+        if folder is ROOT:
+            self.surely(select_fid(cards.ROOT_FID))
+            return
+        if cards.with_fid(cards.files_here(card), folder.fid) is not None or card.folder is not ROOT and self.dice.chance(0.3):
+            self.surely(select_fid(cards.ROOT_FID))
+        self.surely(select_fid(folder.fid))
+
+    def obtain_creation(self):
+        """Presents what CREATE FILE asks for in the current folder."""
+        folder = self.card.folder
+        self.obtain(cards.DEVICE_BIT if folder is ROOT else folder.right)
+
+    def create_folder(self):
+        """A directory, mostly from the root; now and then where it cannot be, or with bytes that cannot be."""
+        dice = self.dice
+        if self.card.folder is not ROOT and dice.chance(0.6):
+            self.go_to(ROOT)
+        if dice.chance(0.9):
+            self.obtain_creation()
+        contents = bytearray((cards.FOLDER, 0, 0, self.rights_byte(), 0))
+        wrong = dice.weighted((("nothing", 80), ("byte", 8), ("right", 6), ("length", 2), ("type", 2)))
+        if wrong == "byte":
+            contents[dice.pick((1, 2, 4, 4))] = dice.pick((0x01, 0x0F, 0x10, 0x80, 0xC1))
+        elif wrong == "right":
+            contents[3] = dice.pick(BAD_RIGHTS)
+        elif wrong == "length":
+            contents = (contents + dice.bytes(4))[:dice.pick((1, 4, 6))]
+        elif wrong == "type":
+            contents[0] = dice.pick(BAD_TYPES)
+        fid = self.new_folder_fid()
+        self.send(case_3("CREATE FILE", fid >> 8, fid & 0xFF, bytes(contents)))
+        if dice.chance(0.4):
+            # Nothing current has changed.
+            self.use_current()
+        if dice.chance(0.4):
+            self.send(select_fid(fid))
+            if dice.chance(0.5):
+                self.create()
+
+    def two_firms(self):
+        """Files with the same SFI in two folders or more, used by it in turns."""
+        dice, card = self.dice, self.card
+        if not card.folders:
+            self.create_folder()
+            return
+        shared = [sfi for sfi in range(1, 31) if sum(file.sfi == sfi for file in card.files) > 1]
+        if not shared or dice.chance(0.1):
+            if card.files:
+                self.go_to(dice.pick([ROOT] + card.folders))
+                self.obtain_creation()
+                like = dice.pick(card.files)
+                fid = dice.pick((like.fid, self.any_fid(like.sfi)))
+                kind = dice.pick((like.kind, cards.BINARY, cards.FIXED, cards.VARIABLE, cards.CYCLIC))
+                contents = bytes((kind,)) + self.size_bytes(kind) + bytes((self.rights_byte(), self.rights_byte()))
+                self.surely(case_3("CREATE FILE", fid >> 8, fid & 0xFF, contents))
+            return
+        sfi = dice.pick(shared)
+        files = [file for file in card.files if file.sfi == sfi]
+        for _ in range(dice.between(2, 6)):
+            file = dice.pick(files)
+            if self.card is not card:
+                return  # as in by_sfi
+            self.go_to(file.folder)
+            if dice.chance(0.6):
+                self.obtain(file.read | file.write if cards.NEVER not in (file.read, file.write) else 0)
+            self.by_sfi(file)
+            if dice.chance(0.07):
+                self.put(b"RESET")
+                self.by_sfi(file)
+            if dice.chance(0.3):
+                self.use_current()
+
+    def by_sfi(self, file):
+        """A command that names a file by its SFI, whatever folder is current."""
+        dice, sfi = self.dice, file.sfi
+        if file not in self.card.files:
+            return  # a line put in between issued another card
+        if file.kind == cards.BINARY:
+            offset = min(255, self.near_end(file.size))
+            self.send(dice.pick((case_2("READ BINARY", 0x80 | sfi, offset, 0), case_2("READ BINARY", 0x80 | sfi, 0, 1),
+                                 case_3("UPDATE BINARY", 0x80 | sfi, 0, dice.bytes(1)))))
+            return
+        number = max(1, min(self.held(file), 255))
+        kind = dice.below(3)
+        if kind == 0:
+            self.send(case_2("READ RECORD", number, sfi << 3 | 4, 0))
+        elif kind == 1:
+            self.send(case_3("UPDATE RECORD", number, sfi << 3 | 4, dice.bytes(self.record_length(file, number))))
         else:
-            sfi = dice.pick((free[0], free[-1], dice.pick(free)))
-        high = dice.pick((0x00, 0x3F, 0xFF, 0x10, dice.below(256)))
-        return high << 8 | dice.below(8) << 5 | sfi
+            self.send(case_3("APPEND RECORD", 0, sfi << 3, self.data_to_append(file)))
 
     def size_bytes(self, kind):
         """The two bytes of size, or of count and record length, good ones."""
@@ -573,8 +694,12 @@ class Generator:
 
     def create(self, log_in=0.93):
         dice = self.dice
-        if dice.chance(log_in):
-            self.obtain(cards.DEVICE_BIT)
+        if dice.chance(0.1) and self.card.folders:
+            self.go_to(dice.pick([ROOT] + self.card.folders))
+        if self.card.folder is not ROOT and self.card.folder.right == cards.NEVER and dice.chance(0.6):
+            self.go_to(ROOT)
+        if dice.chance(log_in if self.card.folder is ROOT else 0.8 * log_in):
+            self.obtain_creation()
         fid = self.new_fid()
         kind = dice.weighted(((cards.BINARY, 30), (cards.FIXED, 18), (cards.VARIABLE, 26), (cards.CYCLIC, 26)))
         if dice.chance(0.8):
@@ -584,9 +709,9 @@ class Generator:
         if dice.chance(0.03):
             contents = (contents + dice.bytes(4))[:dice.pick((1, 4, 6, 9))]
         outcome, _, sw = self.send(case_3("CREATE FILE", fid >> 8, fid & 0xFF, contents))
-        if outcome == 0 and sw == 0x9000 and dice.chance(0.5):
+        file = self.card.current
+        if outcome == 0 and sw == 0x9000 and file is not None and dice.chance(0.5):
             # The new file is current and holds 00, or nothing.
-            file = self.card.current
             if file.kind == cards.BINARY:
                 self.send(case_2("READ BINARY", 0, 0, dice.pick((0, min(file.size, 256)))))
             else:
@@ -599,16 +724,23 @@ class Generator:
             if len(self.card.files) >= cards.MOST_FILES or self.room() == 0:
                 break
         self.create()
+        # Directories are made all the same.
+        self.create_folder()
+        self.create_folder()
 
     def select(self):
-        dice = self.dice
-        files = self.card.files
-        kind = dice.weighted((("there", 65), ("root", 12), ("near", 18), ("any", 5)))
-        fid = ROOT
-        if kind == "there" and files:
-            fid = dice.pick(files).fid
+        dice, card = self.dice, self.card
+        here = self.files_in(card.folder)
+        kind = dice.weighted((("here", 40), ("anywhere", 18), ("folder", 24), ("root", 11), ("near", 15), ("any", 5)))
+        fid = cards.ROOT_FID
+        if kind == "here" and here:
+            fid = dice.pick(here).fid
+        elif kind == "anywhere" and card.files:
+            fid = dice.pick(card.files).fid
+        elif kind == "folder" and card.folders:
+            fid = dice.pick(card.folders).fid
         elif kind == "near":
-            near = dice.pick(files).fid if files else ROOT
+            near = dice.pick(card.files + card.folders).fid if card.files + card.folders else cards.ROOT_FID
             fid = near ^ dice.pick((0x0100, 0x8000, 0x0020, 0x0080, 0x0001, 0x0010))
         elif kind == "any":
             fid = dice.pick((0x0000, 0xFFFF, 0x003F, 0x3F01, dice.below(65536)))
@@ -632,8 +764,16 @@ class Generator:
         self.send(sent)
 
     def a_file(self, kinds):
-        """A file to use, mostly of the kinds asked for, or None."""
+        """A file to use, mostly of the kinds asked for, or None. Mostly one of the current folder, or its folder is made current."""
         files = self.card.files
+        if self.card.folders and self.dice.chance(0.55):
+            files = cards.files_here(self.card)
+        file = self.one_of(files, kinds)
+        if file is not None and self.dice.chance(0.93):
+            self.go_to(file.folder)
+        return file
+
+    def one_of(self, files, kinds):
         current = self.card.current
         if current is not None and current.kind in kinds and self.dice.chance(0.3):
             # Used without a SELECT, the current file shows whether the commands before it kept it.
@@ -653,7 +793,7 @@ class Generator:
             return dice.pick((0, dice.between(1, 30)))
         if offset > 0xFF or dice.chance(0.5):
             if self.card.current is not file:
-                self.surely(case_3("SELECT", 0, 0, bytes((file.fid >> 8, file.fid & 0xFF))))
+                self.surely(select_fid(file.fid))
             return 0
         return file.sfi
 
@@ -717,7 +857,9 @@ class Generator:
             self.send(case_2("READ BINARY", p1, p2, length))
 
     def held(self, file):
-        """How many records a file holds; a binary file counts as one."""
+        """How many records a file holds; a binary file counts as one, and one of a card that a line in between replaced as none."""
+        if file not in self.card.files:
+            return 0
         return 1 if file.kind == cards.BINARY else file.records_held(self.program.area)
 
     def record_length(self, file, number):
@@ -813,6 +955,7 @@ class Generator:
         self.obtain(file.write)
         if not cards.is_allowed(self.card, file.write):
             return
+        self.go_to(file.folder)
         for _ in range(file.count - file.records + dice.between(0, 3)):
             self.send(case_3("APPEND RECORD", 0, file.sfi << 3, dice.bytes(file.length)), spoil=0.01)
         self.read_records(file)
@@ -841,10 +984,12 @@ class Generator:
         lengths.insert(dice.below(3), dice.pick((1, 177)))
         lengths.insert(dice.below(3), 178)
         space = sum(lengths) + len(lengths) + dice.pick((0, 0, 1, 2, 10))
-        free = [sfi for sfi in range(1, 31) if sfi not in [file.sfi for file in self.card.files]]
+        if self.card.folders and dice.chance(0.4):
+            self.go_to(dice.pick([ROOT] + self.card.folders))
+        free = [sfi for sfi in range(1, 31) if sfi not in [file.sfi for file in self.files_in(self.card.folder)]]
         if space > self.room() or len(self.card.files) == cards.MOST_FILES:
             return
-        self.obtain(cards.DEVICE_BIT)
+        self.obtain_creation()
         right = dice.pick((0x00, 0x00, 0x01, 0x40, 0x80, 0xC2))
         self.surely(case_3("CREATE FILE", dice.below(256), dice.below(8) << 5 | dice.pick(free),
                            bytes((cards.VARIABLE, space >> 8, space & 0xFF, right, right))))
@@ -872,6 +1017,7 @@ class Generator:
 
     def append_to(self, file, length):
         """By SFI or, where the file is current already, at times without."""
+        self.go_to(file.folder)
         sfi = 0 if self.card.current is file and self.dice.chance(0.5) else file.sfi
         self.send(case_3("APPEND RECORD", 0, sfi << 3, self.dice.bytes(length)), spoil=0.01)
 
@@ -900,7 +1046,7 @@ class Generator:
         if self.most_lines - len(self.lines) < 350:
             return
         if not any(file.kind == cards.VARIABLE and file.size >= 520 for file in self.card.files):
-            self.obtain(cards.DEVICE_BIT)
+            self.obtain_creation()
             self.surely(case_3("CREATE FILE", dice.below(256), dice.between(1, 30),
                                bytes((cards.VARIABLE, 2, dice.between(8, 60), 0, 0))))
         for file in self.card.files:
@@ -912,6 +1058,7 @@ class Generator:
         self.obtain(file.write)
         if not cards.is_allowed(self.card, file.write):
             return
+        self.go_to(file.folder)
         while self.held(file) <= 256:
             self.surely(case_3("APPEND RECORD", 0, file.sfi << 3, dice.bytes(1)))
         for number in (1, 254, 255):
@@ -923,6 +1070,7 @@ class Generator:
         self.obtain(file.read)
         if cards.is_allowed(self.card, file.read):
             for number in range(1, min(self.held(file) + 1, 255) + 1):
+                self.go_to(file.folder)
                 self.send(case_2("READ RECORD", number, file.sfi << 3 | 4, 0), spoil=0.005)
 
     def read_all(self):
@@ -933,7 +1081,8 @@ class Generator:
             if file.kind == cards.BINARY:
                 self.obtain(file.read)
                 if cards.is_allowed(self.card, file.read):
-                    self.surely(case_3("SELECT", 0, 0, bytes((file.fid >> 8, file.fid & 0xFF))))
+                    self.go_to(file.folder)
+                    self.surely(select_fid(file.fid))
                     for offset in range(0, file.size, 256):
                         le = self.dice.pick((0, min(256, file.size - offset)))
                         self.send(case_2("READ BINARY", offset >> 8, offset & 0xFF, le), spoil=0.005)
@@ -1100,9 +1249,11 @@ class Generator:
         if dice.chance(0.4):
             # A first file without the device right.
             self.create(log_in=0)
+        for _ in range(dice.weighted(((0, 3), (1, 3), (2, 4), (5, 2)))):
+            self.create_folder()
         if lines >= 100 and dice.chance(0.85):
             self.keep_notes()
-        if lines >= 800 and dice.chance(0.5):
+        if lines >= 500 and dice.chance(0.5):
             self.pass_255()
         start = dice.weighted(((0, 2), (3, 4), (7, 4), (18, 2)))
         for _ in range(start):
@@ -1110,7 +1261,7 @@ class Generator:
         while len(self.lines) < end:
             dice.weighted((
                 (self.use_file, 420), (self.show_pin, 130), (self.log_in_device, 55), (self.create, 60),
-                (self.select, 55), (self.change_pin, 28), (self.reload_pin, 26), (self.noise, 26),
+                (self.select, 65), (self.create_folder, 30), (self.two_firms, 45), (self.change_pin, 28), (self.reload_pin, 26), (self.noise, 26),
                 (self.ask_challenge, 14), (self.fetch_nothing, 8), (self.fill_cyclic, 11), (self.fill_variable, 14),
                 (self.keep_notes, 3),
                 (self.pass_255, 1), (self.use_up_tries, 14), (self.read_all, 2), (self.fill_directory, 2),
@@ -1124,6 +1275,9 @@ class Generator:
         self.put(b"RESET")
         if self.dice.chance(0.4):
             self.use_current()
+        if self.dice.chance(0.3) and self.card.files:
+            # In the root, whatever folder was current before.
+            self.by_sfi(self.dice.pick(self.card.files))
 
     def write(self):
         try:
@@ -1151,7 +1305,8 @@ COUNTS = tuple("63C%X" % left for left in range(16))
 
 # What each command can answer. "case" and "length" are the two places where 6700 stands in a command's checks.
 EXPECTED = {
-    "SELECT": ("9000", "6A86", "6700", "6A82"),
+    "SELECT": ("9000 file", "9000 file before a directory", "9000 directory", "9000 directory again", "9000 root", "9000 from inside to the root",
+               "6A86", "6700", "6A82", "6A82 for a file elsewhere"),
     "READ BINARY": ("9000 28 current", "9000 28 SFI", "6A86", "6700 case", "6A82", "6981 2A", "6981 2C", "6981 2E", "6982 28",
                     "6A84 28", "6700 28 length", "9000 28 current, Le 00", "9000 28 SFI, Le 00", "6981 2A, Le 00",
                     "6981 2C, Le 00", "6981 2E, Le 00", "6982 28, Le 00", "6A84 28, Le 00"),
@@ -1171,8 +1326,11 @@ EXPECTED = {
     "EXTERNAL AUTHENTICATE": ("9000", "6A86", "6700", "6983", "6984") + COUNTS,
     "CHANGE PIN": ("9000", "6A86", "6700", "6982", "6A80"),
     "RELOAD PIN": ("9000", "6A86", "6700", "6982", "6A80"),
-    "CREATE FILE": ("9000 28", "9000 2A", "9000 2C", "9000 2E", "6A86", "6700", "6982", "6A80", "6986", "6A84 files",
-                    "6A84 room"),
+    "CREATE FILE": ("9000 28", "9000 2A", "9000 2C", "9000 2E", "6A86", "6700", "6982", "6A80", "6986", "6986 by a directory's FID",
+                    "6A84 files", "6A84 room", "9000 28 inside", "9000 2A inside", "9000 2C inside", "9000 2E inside", "6A86 inside",
+                    "6700 inside", "6982 inside", "6A80 inside", "6986 inside", "6A84 files inside", "6A84 room inside"),
+    "CREATE FILE 38": ("9000", "9000 with 16 files", "6A86", "6700", "6982", "6A80", "6986 by a directory", "6986 by a file",
+                       "6A84", "6A86 inside", "6700 inside", "6982 inside", "6A81 inside"),
     "GET CHALLENGE": ("9000", "6A86", "6700"),
     "GET RESPONSE": ("9000", "9000 Le 00", "9000 Le 00 of 256", "61xx", "6D00", "6A86", "6700", "6985", "6Cxx"),
     "(broken frame)": ("6700",),
@@ -1195,6 +1353,12 @@ class Report:
         self.left = Counter()
         # How often a file's rights byte was asked, by the byte and the rights that were held.
         self.asked = Counter()
+        # How often a creation right was, by the byte and the rights that were held.
+        self.created_by = Counter()
+        # How often a file was used by an SFI that files of other folders have too.
+        self.shared = 0
+        # The folder that was current before.
+        self.folder_before = ROOT
         # How often a 2C record of each length was read, and the highest number that was.
         self.lengths = Counter()
         self.highest = 0
@@ -1213,6 +1377,7 @@ class Report:
             if sw is not None and name != "GET RESPONSE" and program.card.waiting:
                 self.waited[len(program.card.waiting)] += 1
             self.waited_before = len(program.card.waiting)
+            self.folder_before = program.card.folder
             self.full_before = {file: file.records == file.count for file in program.card.files if file.kind == cards.CYCLIC}
 
     def labels(self, program, sent, sw):
@@ -1225,18 +1390,51 @@ class Report:
         name = next((name for cla, ins, name, _ in cards.LIST if (cla, ins) == (sent[0], sent[1])), None)
         if name is None:
             return "(not in the list)", label
-        file = program.card.current
         if name in FILE_COMMANDS:
             return name, self.file_label(program.card, name, frame, sw)
+        elif name == "SELECT":
+            return name, self.select_label(program.card, frame, sw)
+        elif name == "CREATE FILE":
+            return self.create_labels(program.card, frame, sw)
         elif name == "GET RESPONSE":
             return name, self.response_label(frame, sw)
         elif name == "VERIFY" and frame.case == 1:
             name = "VERIFY query"
-        elif name == "CREATE FILE" and sw == 0x9000:
-            label += " %02X" % file.kind
-        elif name == "CREATE FILE" and sw == 0x6A84:
-            label += " files" if len(program.card.files) == cards.MOST_FILES else " room"
         return name, label
+
+    def select_label(self, card, frame, sw):
+        """The SW, and what was found."""
+        label = "%04X" % sw
+        if sw not in (0x9000, 0x6A82):
+            return label
+        fid = frame.data[0] << 8 | frame.data[1]
+        if sw == 0x6A82:
+            return label + (" for a file elsewhere" if cards.with_fid(card.files, fid) is not None else "")
+        if card.current is not None:
+            return label + (" file before a directory" if cards.with_fid(card.folders, fid) is not None else " file")
+        if card.folder is ROOT:
+            return label + (" root" if self.folder_before is ROOT else " from inside to the root")
+        return label + (" directory again" if self.folder_before is card.folder else " directory")
+
+    def create_labels(self, card, frame, sw):
+        """CREATE FILE makes a file or a directory; the SW, where that was, and what parts one cause of the SW from another."""
+        label, inside = "%04X" % sw, "" if card.folder is ROOT else " inside"
+        if inside and sw not in (0x6A86, 0x6700):
+            self.created_by[card.folder.right, card.admin.held, card.user.held, card.device.held] += 1
+        fid = frame.p1 << 8 | frame.p2
+        if frame.data[:1] == bytes((cards.FOLDER,)):
+            if sw == 0x9000 and len(card.files) == cards.MOST_FILES:
+                label += " with 16 files"
+            if sw == 0x6986:
+                label += " by a directory" if cards.with_fid(card.folders, fid) is not None else " by a file"
+            return "CREATE FILE 38", label + inside
+        if sw == 0x9000:
+            label += " %02X" % card.current.kind
+        elif sw == 0x6A84:
+            label += " files" if len(card.files) == cards.MOST_FILES else " room"
+        elif sw == 0x6986 and cards.file_by_sfi(card, fid & 0x1F) is None:
+            label += " by a directory's FID"
+        return "CREATE FILE", label + inside
 
     def response_label(self, frame, sw):
         """The SW, and how all that wait were asked for."""
@@ -1258,6 +1456,8 @@ class Report:
         sfi = (frame.p1 & 0x1F if frame.p1 & 0x80 else 0) if "BINARY" in name else frame.p2 >> 3
         file = card.current if sw == 0x9000 else cards.named_file(card, sfi)
         label += " %02X" % file.kind
+        if sfi and any(other.sfi == sfi and other.folder is not file.folder for other in card.files):
+            self.shared += 1
         if sw != 0x6981:
             byte = file.read if name.startswith("READ") else file.write
             self.asked[byte, card.admin.held, card.user.held, card.device.held] += 1
@@ -1300,6 +1500,10 @@ class Report:
             sum(self.left[left] for left in self.left if left < 256), sum(self.left[left] for left in self.left if left > 256)))
         print("rights bytes asked with sets of held rights: %d of %d pairs, the rarest %d times" % (
             len(self.asked), 8 * len(GOOD_RIGHTS), min(self.asked.values(), default=0)))
+        print("creation rights asked with sets of held rights: %d of %d pairs; files used by an SFI that others have elsewhere: %d" % (
+            len(self.created_by), 8 * len(GOOD_RIGHTS), self.shared))
+        if self.shared == 0:
+            missing.append("an SFI that files in other directories have too")
         print("2C records read: %d lengths, %s; the highest number is %d" % (
             len(self.lengths), ", ".join("%d of %d" % (self.lengths[length], length) for length in (1, 177, 178)), self.highest))
         print("replies that waited: %d; %s" % (

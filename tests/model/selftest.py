@@ -1,4 +1,4 @@
-"""Checks the model itself against document 01 and requests R-1, R-2, R-4, R-5 and R-6 of document 02.
+"""Checks the model itself against document 01 and requests R-1, R-2 and R-4 to R-7 of document 02, with the new form of R-8.
 
 The expected answers are worked out from the papers.
 """
@@ -316,6 +316,284 @@ def test_calls():
     check("newest may be any place, also when not full", cards.is_sound(held, area), True)
 
 
+def test_folder_soundness():
+    session = device_session()
+    for sent in ("80E05101 05 3800000100", "80E05102 05 3800000F00", "80E00001 05 2800010000", "80E00002 05 2E02010000",
+                 "00A40000025101", "80E05201 05 2800010000", "80E05102 05 2A02010000"):
+        check("made by %s" % sent, session.send(sent), "9000")
+    held, area = session.program.card, session.program.area
+    first, second = held.folders
+    in_root, cyclic, inside, fixed = held.files
+    check("a sound state with directories", cards.is_sound(held, area), True)
+    stranger = cards.Folder(0x5103, 0)
+    third, fourth, fifth = cards.Folder(0x5103, 0), cards.Folder(0x0021, 0xC2), cards.Folder(0x5104, 0)
+    # Each clause broken alone, and what is beside it.
+    for expected, owner, field, value in (
+            (False, first, "fid", 0x5102), (False, first, "fid", 0x5100), (False, first, "fid", 0x511F), (False, first, "fid", 0x3F00),
+            (False, first, "fid", 0x0000), (False, first, "fid", 0x513F), (True, first, "fid", 0x5121), (True, first, "fid", 0x511E),
+            (False, first, "fid", 0x0001), (False, second, "fid", 0x0002), (True, first, "fid", 0x0021), (True, first, "fid", 0x5201),
+            (False, in_root, "fid", 0x5101), (False, in_root, "fid", 0x5102), (True, in_root, "fid", 0x5103), (True, in_root, "fid", 0x5121),
+            (True, inside, "fid", 0x5101), (False, inside, "fid", 0x5102), (True, inside, "fid", 0x0001), (False, inside, "fid", 0x0002),
+            (False, inside, "fid", 0x5200), (False, inside, "fid", 0x521F), (True, inside, "fid", 0x521E),
+            (False, first, "right", 0x02), (False, first, "right", 0x04), (False, second, "right", 0x8F), (False, second, "right", 0x0E),
+            (False, first, "right", 0x10), (False, first, "right", 0x05), (True, first, "right", 0x00), (True, first, "right", 0x0F),
+            (True, second, "right", 0xC2), (True, second, "right", 0xC1), (True, second, "right", 0x03), (True, second, "right", 0x82),
+            (False, inside, "folder", stranger), (False, in_root, "folder", stranger), (True, inside, "folder", second),
+            # In the root its SFI is used; the same FID is no matter elsewhere.
+            (False, inside, "folder", None), (False, in_root, "folder", first), (True, in_root, "folder", second),
+            (False, held, "folder", None), (False, held, "folder", second), (False, held, "folder", stranger),
+            (False, held, "current", in_root), (False, held, "current", cyclic), (True, held, "current", inside),
+            (True, held, "current", None), (False, held, "folders", []), (False, held, "folders", [second]),
+            (False, held, "folders", [first, first]),
+            (True, held, "folders", [first]), (True, held, "folders", [second, first]), (True, held, "folders", [first, second, third]),
+            (True, held, "folders", [first, second, third, fourth]), (False, held, "folders", [first, second, third, fourth, fifth])):
+        kept = getattr(owner, field)
+        setattr(owner, field, value)
+        shown = "%04X" % value if isinstance(value, int) else value
+        check("sound with %s %s" % (field, shown), cards.is_sound(held, area), expected)
+        before = snapshot(held)
+        check("reset with %s %s" % (field, shown), cards.reset(held, area), 0 if expected else 4)
+        if expected:
+            check("at the root behind it", (held.current, held.folder), (None, None))
+        else:
+            check("left as it was with %s %s" % (field, shown), snapshot(held), before)
+        held.current, held.folder = fixed, first
+        setattr(owner, field, kept)
+    # No current file: any folder that is there may be current, and no other.
+    for folder, expected in ((None, True), (first, True), (second, True), (stranger, False)):
+        held.current, held.folder = None, folder
+        check("no current file in %r" % folder, cards.is_sound(held, area), expected)
+
+
+def test_folders():
+    # Creating: order of refusals, in the root.
+    session = Session()
+    for sent, expected in (
+            # 6A86 before 6700 before 6982, all before the type is looked at.
+            ("80E05100 05 3800000000", "6A86"), ("80E0511F 05 3800000000", "6A86"), ("80E03F00 05 3800000000", "6A86"),
+            ("80E05100 04 38000000", "6A86"), ("80E05100", "6A86"), ("80E05101 04 38000000", "6700"), ("80E05101 06 380000000000", "6700"),
+            ("80E05101 05 380000000000", "6700"), ("80E05101", "6700"), ("80E0510105", "6700"), ("80E05101 05 3800000000", "6982"),
+            ("80E05101 05 3801000000", "6982"), ("80E05101 05 3800000200", "6982")):
+        check("create %s without the device right" % sent, session.send(sent), expected)
+    session.log_in()
+    for sent, expected in (
+            ("80E05101 05 3801000000", "6A80"), ("80E05101 05 3800010000", "6A80"), ("80E05101 05 3800000001", "6A80"),
+            ("80E05101 05 380000000F", "6A80"), ("80E05101 05 3810000000", "6A80"), ("80E05101 05 3880000000", "6A80"),
+            ("80E05101 05 3800000200", "6A80"), ("80E05101 05 3800000400", "6A80"), ("80E05101 05 3800000800", "6A80"),
+            ("80E05101 05 3800008F00", "6A80"), ("80E05101 05 3700000000", "6A80"), ("80E05101 05 3900000000", "6A80"),
+            ("00A40000025101", "6A82"), ("80E05101 05 3800000000", "9000"), ("00A40000025101", "9000"), ("00A40000023F00", "9000"),
+            # 6A80 before 6986, 6986 before 6A84; only the same FID clashes.
+            ("80E05101 05 3800000000", "6986"), ("80E05101 05 3801000000", "6A80"), ("80E05101 05 3800000F00", "6986"),
+            ("80E05121 05 3800000F00", "9000"), ("80E05101 05 2800010000", "6986"), ("80E05121 05 2A02010000", "6986"),
+            ("80E05101 05 2800000000", "6A80"), ("80E05141 05 2800010000", "9000"), ("80E05161 05 2800010000", "6986"),
+            ("80E05141 05 3800000000", "6986"), ("80E05161 05 3800000000", "9000"), ("80E0FFFE 05 380000C200", "9000"),
+            ("80E0FFFE 05 3800000000", "6986"), ("80E05141 05 3800000000", "6986"), ("80E00001 05 3800000000", "6A84"),
+            ("80E00001 05 3800000200", "6A80"), ("80E05181 05 2800010000", "6986"), ("80E05182 05 2800010000", "9000"),
+            ("80E0FFFE 05 2800010000", "6986"), ("80E0FFDE 05 2800010000", "9000"), ("00A40000025161", "9000"),
+            ("80E05183 05 2800010000", "9000")):
+        check("create %s" % sent, session.send(sent), expected)
+
+    # Every creation right: good ones as a file's, others 6A80.
+    for byte in range(256):
+        session = device_session()
+        check("creation right %02X" % byte, session.send("80E05101 05 380000%02X00" % byte), "9000" if byte in ASKED else "6A80")
+    # Every type with sizes 0: only 38 makes anything. Inside a directory 38 is 6A81, and the rest 6A80 as in the root.
+    session = device_session()
+    check("types in the root", [kind for kind in range(256) if session.send("80E05201 05 %02X00000000" % kind) != "6A80"], [0x38])
+    session.send("00A40000025201")
+    check("types inside", {kind: sw for kind in range(256) for sw in [session.send("80E05301 05 %02X00000000" % kind)] if sw != "6A80"},
+          {0x38: "6A81"})
+    session = device_session()
+    check("low bits of a FID", [low for low in range(32) if session.send("80E051%02X 05 3801000000" % low) != "6A86"],
+          list(range(1, 31)))
+
+    # Inside a directory: 6982 by its creation right, then 6A81, both before 6A80.
+    session = device_session()
+    for sent, expected in (
+            ("80E05101 05 3800008000", "9000"), ("80E05102 05 3800000000", "9000"), ("80E05103 05 3800000F00", "9000"),
+            ("00A40000025101", "9000"), ("80E00001 05 2800010000", "6982"), ("80E00001 05 3800000000", "6982"),
+            ("80E00001 05 FF00000000", "6982"), ("80E00001 04 38000000", "6700"), ("80E00000 05 3800000000", "6A86"),
+            ("0020000008 3837363534333231", "9000"), ("80E00001 05 3800000000", "6A81"), ("80E00001 05 38FFFFFFFF", "6A81"),
+            ("80E05101 05 3800000000", "6A81"), ("80E00001 05 FF00000000", "6A80"), ("80E00001 05 2800010000", "9000"),
+            ("80E00001 05 3800000000", "6A81"), ("80E00001 05 2800010000", "6986"), ("80E00021 05 2800010000", "6986"),
+            ("00A40000025103", "9000"), ("80E00001 05 2800010000", "6982"), ("80E00001 05 3800000000", "6982"),
+            ("00A40000025102", "9000"), ("80E00001 05 2800010000", "9000"), ("80E00002 05 3800000000", "6A81"),
+            ("00A40000023F00", "9000"), ("80E00001 05 2800010000", "9000"), ("80E00002 05 3800000000", "9000")):
+        check("rights inside, %s" % sent, session.send(sent), expected)
+    session.reset()
+    check("the device right is not asked in a directory that is free",
+          [session.send(sent) for sent in ("80E00003 05 2800010000", "00A40000025102", "80E00003 05 2800010000", "80E00004 05 3800000000",
+                                           "00A40000025101", "80E00003 05 2800010000", "00A40000025103", "80E00003 05 2800010000")],
+          ["6982", "9000", "9000", "6A81", "9000", "6982", "9000", "6982"])
+
+
+def test_folder_rights():
+    """Each creation right with each set of rights held."""
+    for byte, asked in ASKED.items():
+        session = device_session()
+        session.send("80E05101 05 380000%02X00" % byte)
+        sfi = 1
+        for held in range(8):
+            session.reset()
+            names = set()
+            for bit, name, present in ((1, "device", session.log_in), (2, "user", session.user), (4, "admin", session.admin)):
+                if held & bit:
+                    present()
+                    names.add(name)
+            passes = any(set(needed.split()) <= names for needed in asked)
+            shown = "%02X with %s" % (byte, " ".join(sorted(names)) or "nothing")
+            # In the root the device right alone counts, whatever the directories ask.
+            check("in the root, " + shown, session.send("80E00001 05 FF00000000"), "6A80" if "device" in names else "6982")
+            check("select, " + shown, session.send("00A40000025101"), "9000")
+            check("a directory inside, " + shown, session.send("80E05202 05 3800000000"), "6A81" if passes else "6982")
+            check("a file inside, " + shown, session.send("80E000%02X 05 2800010000" % sfi), "9000" if passes else "6982")
+            sfi += passes
+
+
+def test_folder_select():
+    session = device_session()
+    for sent in ("80E05101 05 3800000000", "80E05102 05 3800000000", "80E00101 05 2800010000", "00D6000001A0", "80E00102 05 2800010000",
+                 "00D6000001A1", "00A40000025101", "80E00101 05 2800010000", "00D6000001B0", "80E05102 05 2800010000", "00D6000001B1",
+                 "80E05101 05 2800010000", "00A40000023F00", "00A40000025102", "80E05102 05 2800010000", "00D6000001C1"):
+        session.send(sent)
+    for sent, expected in (
+            # In 5102: its own file 5102 comes before the directory, and is found again and again.
+            ("00A40000025102", "9000"), ("00B0000000", "C1 9000"), ("00A40000025102", "9000"), ("00B0000000", "C1 9000"),
+            # No file of the root, nor of another directory. What was current stays.
+            ("00A40000020101", "6A82"), ("00B0000000", "C1 9000"), ("00A40000020102", "6A82"), ("00A4000002FFFF", "6A82"),
+            ("00B0000000", "C1 9000"),
+            # To the other directory; selecting it leaves no current file.
+            ("00A40000025101", "9000"), ("00B0000000", "6A82"), ("00A40000020101", "9000"), ("00B0000000", "B0 9000"),
+            # Its own file 5102 hides the directory 5102 there. SFI 1 was used, so 5101 was not made.
+            ("00A40000025102", "9000"), ("00B0000000", "B1 9000"), ("00A40000025101", "9000"), ("00B0000000", "6A82"),
+            ("00A40000020102", "6A82"), ("00B0000000", "6A82"),
+            ("00A40000023F00", "9000"), ("00B0000000", "6A82"), ("00A40000020101", "9000"), ("00B0000000", "A0 9000"),
+            # Selecting the current directory again leaves no current file; 3F00 in the root too.
+            ("00A40000023F00", "9000"), ("00B0000000", "6A82"), ("00A40000025101", "9000"), ("00A40000020101", "9000"),
+            ("00A40000025101", "9000"), ("00B0000000", "6A82"), ("00A40000023F00", "9000"),
+            # Making a directory alters nothing current.
+            ("00A40000020102", "9000"), ("80E05103 05 3800000000", "9000"), ("00B0000000", "A1 9000"), ("80E05103 05 3800000000", "6986"),
+            ("00B0000000", "A1 9000"), ("00A40000025103", "9000"), ("00A40000020102", "6A82"), ("00B0000000", "6A82"),
+            # P and case before all; a refused SELECT moves nothing.
+            ("00A40001023F00", "6A86"), ("00A40000013F", "6700"), ("00A40000023F0000", "6700"), ("00A40000020101", "6A82"),
+            ("80E00101 05 2800010000", "9000"), ("00B0000000", "00 9000"), ("00A40000023F00", "9000"), ("00A40000020101", "9000"),
+            ("00B0000000", "A0 9000")):
+        check("select %s" % sent, session.send(sent), expected)
+
+    # A reset returns to the root.
+    session.send("00A40000025101")
+    session.send("00A40000020101")
+    session.reset()
+    for sent, expected in (("00B0000000", "6A82"), ("00B0810000", "A0 9000"), ("00A40000020102", "9000"), ("00B0000000", "A1 9000")):
+        check("after a reset %s" % sent, session.send(sent), expected)
+    session.send("00A40000025101")
+    session.reset()
+    session.log_in()
+    check("a file made after a reset lies in the root", [session.send(sent) for sent in (
+        "80E00103 05 2800010000", "00A40000025101", "00A40000020103", "00A40000023F00", "00A40000020103")],
+        ["9000", "9000", "6A82", "9000", "9000"])
+
+
+def test_folder_sfi():
+    """The same SFI in the root and in two directories: read, updated and appended by SFI in the current one alone."""
+    session = device_session()
+    for folder in ("3F00", "5101", "5102"):
+        if folder != "3F00":
+            session.send("80E0%s 05 3800000000" % folder)
+    for number, folder in enumerate(("3F00", "5101", "5102")):
+        check("to %s" % folder, session.send("00A4000002%s" % folder), "9000")
+        for sfi, made in ((1, "2800020000"), (2, "2A02010000"), (3, "2E02010000"), (4, "2C00080000")):
+            check("SFI %d in %s" % (sfi, folder), session.send("80E0%02X%02X 05 %s" % (0x60 + number, sfi, made)), "9000")
+    # Only in 5102.
+    check("SFI 5", session.send("80E06205 05 2800010000"), "9000")
+    for number, folder in enumerate(("3F00", "5101", "5102")):
+        session.send("00A4000002%s" % folder)
+        byte = "%02X" % (0xA0 + number)
+        for sent in ("00D6810001" + byte, "00DC021401" + byte, "00E2001801" + byte, "00E2002002" + byte + "EE"):
+            check("written in %s by %s" % (folder, sent), session.send(sent), "9000")
+    for number, folder in list(enumerate(("3F00", "5101", "5102")))[::-1]:
+        session.send("00A4000002%s" % folder)
+        byte = "%02X" % (0xA0 + number)
+        for sent, expected in (
+                ("00B0000001", "6A82"), ("00B0810000", byte + "00 9000"), ("00B0000000", byte + "00 9000"), ("00B2011400", "00 9000"),
+                ("00B2021400", byte + " 9000"), ("00B2010400", "00 9000"), ("00B2011C00", byte + " 9000"), ("00B2021C00", "6A83"),
+                ("00B2012400", byte + "EE 9000"), ("00B2022400", "6A83"), ("00B2010400", byte + "EE 9000")):
+            check("read in %s by %s" % (folder, sent), session.send(sent), expected)
+        found = folder == "5102"
+        for sent in ("00B0850000", "00D685000100"):
+            sw = session.send(sent)
+            check("SFI 5 in %s by %s" % (folder, sent), sw[-4:], "9000" if found else "6A82")
+        check("records of SFI 5 in %s" % folder, [session.send(sent) for sent in ("00B2012C00", "00DC012C0100", "00E200280100")],
+              ["6981" if found else "6A82"] * 3)
+    # Refused ones by SFI leave the current file, and served ones make it current.
+    session.send("00A40000025101")
+    session.send("00A40000026101")
+    check("current", [session.send(sent) for sent in ("00B0850000", "00B0000000", "00B2012400", "00B0000000", "00B2010400")],
+          ["6A82", "A100 9000", "A1EE 9000", "6981", "A1EE 9000"])
+
+
+def test_folder_limits():
+    # Sixteen files in all, directories apart; SFIs may be used again in each.
+    session = device_session()
+    check("four directories", [session.send("80E051%02X 05 3800000000" % number) for number in range(1, 5)], ["9000"] * 4)
+    check("a fifth", session.send("80E05105 05 3800000000"), "6A84")
+    for folder in ("3F00", "5101", "5102", "5103"):
+        session.send("00A4000002" + folder)
+        check("four files in %s" % folder, [session.send("80E061%02X 05 2800010000" % sfi) for sfi in range(1, 5)], ["9000"] * 4)
+    check("a seventeenth in a directory", session.send("80E06105 05 2800010000"), "6A84")
+    check("its SFI first", session.send("80E06101 05 2800010000"), "6986")
+    session.send("00A40000025104")
+    check("a seventeenth in an empty directory", session.send("80E06101 05 2800010000"), "6A84")
+    session.send("00A40000023F00")
+    check("a seventeenth in the root", session.send("80E06105 05 2800010000"), "6A84")
+    check("with a directory's FID", session.send("80E05101 05 2800010000"), "6986")
+    check("a fifth with 16 files", session.send("80E05105 05 3800000000"), "6A84")
+
+    # With 16 files and a full area directories are still made; they take no bytes.
+    session = device_session()
+    for sfi in range(1, 17):
+        session.send("80E061%02X 05 28%04X0000" % (sfi, 256))
+    check("full", session.send("80E06111 05 2800010000"), "6A84")
+    area = bytes(session.program.area)
+    check("four directories with 16 files and a full area",
+          [session.send("80E051%02X 05 3800000000" % number) for number in range(1, 6)], ["9000"] * 4 + ["6A84"])
+    check("the area stays", bytes(session.program.area), area)
+    session.send("00A40000025101")
+    check("no seventeenth inside", session.send("80E06101 05 2800010000"), "6A84")
+
+    # One file that takes the area: room is one for all directories.
+    session = device_session()
+    session.send("80E05101 05 3800000000")
+    session.send("80E06101 05 280FFE0000")
+    session.send("00A40000025101")
+    check("3 bytes where 2 are left", session.send("80E06101 05 2800030000"), "6A84")
+    check("2 bytes where 2 are left", session.send("80E06101 05 2800020000"), "9000")
+    check("in creation order", [(file.start, file.extent) for file in session.program.card.files], [(0, 4094), (4094, 2)])
+    check("written to the end", session.send("00D6000002AABB"), "9000")
+    check("at the end of the area", session.program.area[4093:].hex().upper(), "00AABB")
+    session.send("00A40000023F00")
+    check("a directory with a full area", session.send("80E05102 05 3800000000"), "9000")
+    check("no directory by 6A84 before 6986", session.send("80E06101 05 3800000000"), "6986")
+
+    # A new file is current and its bytes are 00; a directory made beside it takes none.
+    session = device_session()
+    session.program.area[:] = b"\xFF" * 4096
+    for sent in ("80E06101 05 2800020000", "80E05101 05 3800000000", "00A40000025101", "80E06101 05 2800020000"):
+        session.send(sent)
+    check("new bytes", session.program.area[:6].hex().upper(), "00000000FFFF")
+    check("where they lie", [(file.fid, file.folder and file.folder.fid) for file in session.program.card.files],
+          [(0x6101, None), (0x6101, 0x5101)])
+
+    # Mode 1: what waits and the challenge go as with any other command.
+    session = device_session(mode=1)
+    session.send("80E05101 05 3800000000")
+    session.send("0084000004")
+    check("a SELECT discards what waits", [session.send(sent) for sent in ("00A40000025101", "00C0000000")], ["9000", "6985"])
+    session.send("80E06101 05 2800020000")
+    check("a read in a directory waits", [session.send(sent) for sent in ("00B0810000", "00C0000000", "00A40000023F00", "00B0810000")],
+          ["6102", "0000 9000", "9000", "6A82"])
+
+
 def test_variable_soundness():
     def card_with(used):
         """A 2C file of 400 bytes from byte 16 of the area on, so many of them used."""
@@ -556,11 +834,15 @@ def test_variable_many():
 def snapshot(made):
     """All that a state holds, as a value."""
     def fields(owner):
-        return tuple(getattr(owner, name) for name in owner.__slots__)
+        return tuple(getattr(owner, name) for name in owner.__slots__ if name != "folder")
 
-    return (fields(made.device), fields(made.admin), fields(made.user), tuple(fields(file) for file in made.files),
-            made.files.index(made.current) if made.current in made.files else made.current, made.challenge, made.mode,
-            made.waiting)
+    def place(folder):
+        return made.folders.index(folder) if folder in made.folders else folder
+
+    return (fields(made.device), fields(made.admin), fields(made.user),
+            tuple(fields(file) + (place(file.folder),) for file in made.files), tuple(fields(folder) for folder in made.folders),
+            made.files.index(made.current) if made.current in made.files else made.current, place(made.folder), made.challenge,
+            made.mode, made.waiting)
 
 
 # A card of all four file types, its lines worked out by hand from the commands of lined_session.
@@ -568,15 +850,15 @@ LINED = """\
 000102030405060708090A0B0C0D0E0F	128	128
 3837363534333231	5	5
 313233343536	3	2
-1	0	0	0104	0011223344556677	0	-
-0101	2800210001	0	0
+1	0	0	0104	0011223344556677	0	-	3F00
+0101	2800210001	0	0	3F00
 A100000000000000000000000000000000000000000000000000000000000000
 A2
-0102	2A02038000	0	0
+0102	2A02038000	0	0	3F00
 000000B1B2B3
-0103	2E03020000	2	1
+0103	2E03020000	2	1	3F00
 C1C2D1D20000
-0104	2C00080000	5	0
+0104	2C00080000	5	0	3F00
 01AA02BBCC000000
 """
 # Whole files end with these of its lines.
@@ -620,7 +902,7 @@ def with_lines(number, *new):
 
 def with_waiting(mode, waiting):
     """The lines above with this mode and these bytes waiting."""
-    return with_lines(4, "1\t0\t0\t0104\t0011223344556677\t%s\t%s" % (mode, waiting))
+    return with_lines(4, "1\t0\t0\t0104\t0011223344556677\t%s\t%s\t3F00" % (mode, waiting))
 
 
 def test_text_example():
@@ -642,7 +924,7 @@ def test_text_example():
 000102030405060708090A0B0C0D0E0F	128	128
 3837363534333231	5	5
 313233343536	3	3
-0	0	0	-	-	0	-
+0	0	0	-	-	0	-	3F00
 """)
     # The lines say all that a call can tell: each state here is another one, and so is its text.
     session = Session(user="1234567890123456", user_limit=1)
@@ -652,18 +934,18 @@ def test_text_example():
         seen.append(texts.to_text(session.program.card, session.program.area).decode().splitlines()[1:])
     user = "31323334353637383930313233343536"
     check("as commands change it", seen, [
-        ["3837363534333231\t5\t5", user + "\t1\t1", "0\t0\t0\t-\t00112233\t0\t-"],
-        ["3837363534333231\t5\t5", user + "\t1\t1", "0\t0\t0\t-\t" + RANDOM + "\t0\t-"],
-        ["3837363534333231\t5\t5", user + "\t1\t1", "0\t1\t0\t-\t-\t0\t-"],
-        ["3837363534333231\t5\t5", user + "\t1\t0", "0\t1\t0\t-\t-\t0\t-"],
-        ["393837363534\t5\t5", user + "\t1\t0", "0\t1\t0\t-\t-\t0\t-"]])
+        ["3837363534333231\t5\t5", user + "\t1\t1", "0\t0\t0\t-\t00112233\t0\t-\t3F00"],
+        ["3837363534333231\t5\t5", user + "\t1\t1", "0\t0\t0\t-\t" + RANDOM + "\t0\t-\t3F00"],
+        ["3837363534333231\t5\t5", user + "\t1\t1", "0\t1\t0\t-\t-\t0\t-\t3F00"],
+        ["3837363534333231\t5\t5", user + "\t1\t0", "0\t1\t0\t-\t-\t0\t-\t3F00"],
+        ["393837363534\t5\t5", user + "\t1\t0", "0\t1\t0\t-\t-\t0\t-\t3F00"]])
     session = Session(mode=1)
     seen = []
     for sent in ("00A40000023F00", "0084000004", "00C0000001", "00C0000104", "00C0000002", "00C0000000", "0084000008", "00200001"):
         session.send(sent)
         seen.append(texts.to_text(session.program.card, session.program.area).decode().splitlines()[3])
     check("as the data wait and are fetched", seen, [
-        "0\t0\t0\t-\t%s\t1\t%s" % fields for fields in (
+        "0\t0\t0\t-\t%s\t1\t%s\t3F00" % fields for fields in (
             ("-", "-"), ("00112233", "00112233"), ("00112233", "112233"), ("00112233", "112233"), ("00112233", "33"),
             ("00112233", "-"), ("0011223344556677", "0011223344556677"), ("-", "-"))])
 
@@ -702,6 +984,9 @@ def test_text_fields():
             (session, 5, ("0", "1"), ("2", "", "-", "00", "01", "10", "+1", " 1", "1 ", "1\r", "A", "256", "257")),
             # In mode 0 nothing waits.
             (session, 6, ("-",), ("", "00", "AA", "0", "--", " -", "- ", "aa", "FF" * 256, "FF" * 257)),
+            # There is no directory.
+            (session, 7, ("3F00",), ("", "-", "0000", "3F01", "3F1F", "0101", "0104", "FFFF", "3f00", "3F0", "3F000", " 3F00", "3F00 ",
+                                     "3F00\r", "3F00\t", "3F00\t3F00", "3F", "0", "003F")),
             # SFIs 2, 3 and 4 are used by the other files.
             (binary, 0, ("0101", "0105", "011E", "FF41", "0001", "3F01"),
              ("0102", "0202", "0222", "0144", "0100", "0120", "011F", "013F", "0000", "3F00", "101", "00101", "01", "", "-", "01e1",
@@ -712,6 +997,8 @@ def test_text_fields():
               "2800218F00", "2800211200", "28002100C6", "2800210A0A", "28002100", "280021000100", "28 0021 00 01", "", "-", "2800210c01", "2800210C01")),
             (binary, 2, ("0",), ("1", "33", "00", "", "-", "+0", "256")),
             (binary, 3, ("0",), ("1", "00", "", "-", "256")),
+            (binary, 4, ("3F00",), ("", "-", "0000", "3F01", "0101", "0102", "FFFF", "3f00", "3F0", "3F000", " 3F00", "3F00 ", "3F00\r",
+                                    "3F00\t", "3F00\t3F00", "3F", "0", "003F")),
             (fixed, 1, ("2A02038000", "2A03028000", "2A06018000", "2800068000", "2C00068000", "2E02038000", "2E06018000"),
              ("2A01068000", "2A00068000", "2A02048000", "2A02028000", "2A06008000", "2802038000", "2A02B38000", "2a02038000",
               "2AFF018000")),
@@ -724,7 +1011,8 @@ def test_text_fields():
             (variable, 1, ("2C00080000",), ("2C00090000", "2C00070000", "2800080000", "2E02040000", "2C00080002")),
             # Records of 1 and of 2 bytes, each behind its length; the byte after them is 00, which is no length.
             (variable, 2, ("0", "2", "5"), ("1", "3", "4", "6", "7", "8", "9", "05", "261", "65541", "-", "")),
-            (variable, 3, ("0",), ("1", "00", "-"))):
+            (variable, 3, ("0",), ("1", "00", "-")),
+            (variable, 4, ("3F00",), ("-", "0104", "3F04"))):
         for value in good:
             check("good: line %d, field %d: %s" % (number, field, value[:40]), accepts(with_field(number, field, value)), True)
         for value in bad:
@@ -747,9 +1035,9 @@ def test_text_fields():
 
     # Two fields together.
     for name, text, expected in (
-            ("an empty cyclic file", with_lines(10, "0103\t2E03020000\t0\t0"), True),
-            ("an empty cyclic file with a newest place", with_lines(10, "0103\t2E03020000\t0\t1"), False),
-            ("a cyclic file that is not full, its newest at the last place", with_lines(10, "0103\t2E03020000\t1\t2"), True),
+            ("an empty cyclic file", with_lines(10, "0103\t2E03020000\t0\t0\t3F00"), True),
+            ("an empty cyclic file with a newest place", with_lines(10, "0103\t2E03020000\t0\t1\t3F00"), False),
+            ("a cyclic file that is not full, its newest at the last place", with_lines(10, "0103\t2E03020000\t1\t2\t3F00"), True),
             ("nothing waits in mode 1", with_waiting("1", "-"), True),
             ("a byte waits", with_waiting("1", "00"), True),
             ("a byte waits, not in lower case", with_waiting("1", "aa"), False),
@@ -767,8 +1055,8 @@ def test_text_fields():
             ("a byte waits in mode 2", with_waiting("2", "A5"), False),
             ("a byte waits in mode 01", with_waiting("01", "A5"), False),
             ("mode and waiting bytes swapped", with_waiting("-", "1"), False),
-            ("no waiting bytes", with_lines(4, "1\t0\t0\t0104\t0011223344556677\t1"), False),
-            ("no mode", with_lines(4, "1\t0\t0\t0104\t0011223344556677"), False),
+            ("no waiting bytes", with_lines(4, "1\t0\t0\t0104\t0011223344556677\t1\t3F00"), False),
+            ("no mode", with_lines(4, "1\t0\t0\t0104\t0011223344556677\t-\t3F00"), False),
             ("a field behind the waiting bytes", with_waiting("1", "A5\t-"), False),
             ("a limit of 1", with_lines(2, "3837363534333231\t1\t1"), True),
             ("a limit of 1 and no tries", with_lines(2, "3837363534333231\t1\t0"), True),
@@ -780,17 +1068,146 @@ def test_text_fields():
             ("all rights", with_field(3, 2, "3").replace("\n1\t0\t0", "\n1\t1\t1"), True),
             ("the current file's FID and its file's in lower case", LINED.replace("0104", "01e4"), False),
             ("the current file's FID and its file's in upper case", LINED.replace("0104", "01E4"), True),
-            ("a binary file of 32", with_lines(5, "0101\t2800200001\t0\t0").replace("A2\n", ""), True),
-            ("a binary file of 64", with_lines(5, "0101\t2800400001\t0\t0").replace("A2\n", "A2" * 32 + "\n"), True),
-            ("a binary file of 64 with an empty line", with_lines(5, "0101\t2800400001\t0\t0").replace("A2\n", "A2" * 32 + "\n\n"),
+            ("a binary file of 32", with_lines(5, "0101\t2800200001\t0\t0\t3F00").replace("A2\n", ""), True),
+            ("a binary file of 64", with_lines(5, "0101\t2800400001\t0\t0\t3F00").replace("A2\n", "A2" * 32 + "\n"), True),
+            ("a binary file of 64 with an empty line", with_lines(5, "0101\t2800400001\t0\t0\t3F00").replace("A2\n", "A2" * 32 + "\n\n"),
              False),
-            ("all of a 2C file used", with_lines(12, "0104\t2C00080000\t8\t0").replace("CC000000\n", "CC020000\n"), True),
-            ("more used than there is", with_lines(12, "0104\t2C00080000\t9\t0").replace("CC000000\n", "CC030000\n"), False)):
+            ("all of a 2C file used", with_lines(12, "0104\t2C00080000\t8\t0\t3F00").replace("CC000000\n", "CC020000\n"), True),
+            ("more used than there is", with_lines(12, "0104\t2C00080000\t9\t0\t3F00").replace("CC000000\n", "CC030000\n"), False)):
         check(name, accepts(text), expected)
 
     read, _ = texts.from_text(with_lines(2, "39" * 16 + "\t7\t6").encode())
     check("the fields go where they belong", (read.admin.value, read.admin.limit, read.admin.tries, read.admin.held),
           (b"9" * 16, 7, 6, False))
+
+
+# Two firms in one box, its lines worked out by hand from the commands of firms_session.
+FIRMS = """\
+000102030405060708090A0B0C0D0E0F	128	128
+3837363534333231	5	5
+313233343536	3	3
+1	0	0	5102	-	0	-	5101
+5101	01
+5102	0F
+0121	C2
+0101	2800010000	0	0	3F00
+A0
+0101	2800010000	0	0	5101
+B0
+5102	2E02010000	1	0	5101
+B100
+"""
+
+
+def firms_session():
+    session = device_session()
+    for sent in ("80E05101 05 3800000100", "80E05102 05 3800000F00", "80E00121 05 380000C200", "80E00101 05 2800010000", "00D6000001A0",
+                 "00A40000025101", "80E00101 05 2800010000", "00D6000001B0", "80E05102 05 2E02010000", "00E2000001B1"):
+        session.send(sent)
+    return session
+
+
+def test_text_folders():
+    session = firms_session()
+    card, area = session.program.card, session.program.area
+    check("the lines of two firms", texts.to_text(card, area).decode(), FIRMS)
+    read, contents = texts.from_text(FIRMS.encode())
+    check("read, the same state", snapshot(read), snapshot(card))
+    check("and the same bytes", bytes(contents), bytes(area))
+    session.program.card, session.program.area = read, contents
+    for sent, expected in (("00B2010400", "B1 9000"), ("00B0810000", "B0 9000"), ("00A40000025102", "9000"), ("00A40000023F00", "9000"),
+                           ("00B0810000", "A0 9000"), ("00A40000025102", "9000"), ("80E00101 05 2800010000", "6982")):
+        check("a card of two firms that was read, %s" % sent, session.send(sent), expected)
+    session.reset()
+    check("reset", texts.to_text(session.program.card, session.program.area).decode().splitlines()[3], "0\t0\t0\t-\t-\t0\t-\t3F00")
+
+    lines = FIRMS.splitlines()
+
+    def changed(number, *new):
+        """The lines above with others in the place of one; lines count from 1."""
+        return text_of_lines(lines[:number - 1] + list(new) + lines[number:])
+
+    def field(number, place, value):
+        fields = lines[number - 1].split("\t")
+        fields[place:place + 1] = value
+        return changed(number, "\t".join(fields))
+
+    for number, place, good, bad in (
+            # The current file is 5102 in 5101; 0101 lies there too, and in the root.
+            (4, 3, ("5102", "0101", "-"), ("5101", "0121", "3F00", "0102", "0000")),
+            (4, 7, ("5101",), ("3F00", "5102", "0121", "5103", "0101", "-", "", "0000", "1", "5101 ", "51010", "510")),
+            (5, 0, (), ("5101\t", "5102", "0121", "0101", "5100", "511F", "3F00", "5103", "-", "", "510", "05101", "51 1")),
+            (5, 1, ("00", "01", "0F", "40", "41", "80", "81", "C0", "C1", "03", "42", "43", "82", "83", "C2", "C3"),
+             ("02", "04", "05", "08", "0E", "10", "20", "4F", "8F", "FF", "0", "1", "001", "0100", "", "-", "0f", "c1", " 01", "01 ", "01\t")),
+            # No file lies in 5102: another FID will do, but for those of directories and root files.
+            (6, 0, ("5103", "5122", "511E", "5201", "0102", "FFFE", "0141"),
+             ("5101", "0121", "0101", "5100", "511F", "3F00", "3F1F", "0000", "513F", "510g", "51a1", "")),
+            (7, 0, ("0122", "013E", "0161"), ("0101", "5101", "5102", "0120", "011F")),
+            # In the root the file may have any free FID but a directory's, whatever the low bits are.
+            (8, 0, ("0101", "0141", "0102", "5103", "5121"), ("5101", "5102", "0121", "0100", "011F")),
+            (8, 4, ("3F00", "5102", "0121"), ("5101", "5103", "0101", "-", "", "0000", "3F01", "3f00", "3F0", "3F00 ", "3F00\t3F00")),
+            # In a directory it may have a directory's, also of its own. SFI 2 is used.
+            (10, 0, ("0101", "5101", "0121", "FFFE", "3F01"), ("5102", "0102", "5100", "511F", "3F00")),
+            (10, 4, ("5101", "5102", "0121"), ("3F00", "5103", "0000", "-", "", "0101")),
+            (12, 4, ("5101",), ("3F00", "5102", "0121", "5103"))):
+        for value in good:
+            check("good: firms, line %d, field %d: %s" % (number, place, value), accepts(field(number, place, [value])), True)
+        for value in bad:
+            check("bad: firms, line %d, field %d: %s" % (number, place, value), accepts(field(number, place, [value])), False)
+    free = field(4, 3, ["-"])
+    for value in ("3F00", "5101", "5102", "0121"):
+        check("no current file in %s" % value, accepts(free.replace("-\t5101\n", "-\t%s\n" % value, 1)), True)
+    for value in ("5103", "0101", "0000", "-"):
+        check("no such directory: %s" % value, accepts(free.replace("-\t5101\n", "-\t%s\n" % value, 1)), False)
+    for name, text, expected in (
+            ("the session without a directory", field(4, 7, []), False), ("a file without one", field(8, 4, []), False),
+            ("a directory without a right", field(5, 1, []), False), ("a directory without a FID", field(5, 0, []), False),
+            ("a directory less, with files in it", changed(5), False), ("a directory less, without", changed(6), True),
+            ("a directory twice", changed(6, lines[5], lines[5]), False),
+            ("a directory twice with another right", changed(6, lines[5], "5102\t00"), False),
+            ("directories in another order", changed(5, lines[5], lines[4]).replace("\n5101\t01\n5102\t0F\n", "\n5101\t01\n", 1), True),
+            ("four directories", changed(7, lines[6], "5104\tC3"), True),
+            ("five directories", changed(7, lines[6], "5104\tC3", "5105\t00"), False),
+            ("a directory behind a file", changed(10, "5104\tC3", lines[9]), False),
+            ("a directory at the end", FIRMS + "5104\tC3\n", False),
+            ("a directory before the session", changed(4, "5104\tC3", lines[3]), False),
+            ("a directory at the start", "5104\tC3\n" + FIRMS, False),
+            ("a directory within contents", changed(9, "5104\tC3", lines[8]), False),
+            ("the root as a directory", changed(5, "3F00\t00", lines[4]), False),
+            ("a directory's line as a file's", changed(6, "5102\t3800000F00\t0\t0\t3F00"), False),
+            ("CREATE's bytes in its line", changed(6, "5102\t3800000F00"), False), ("a field more", changed(6, "5102\t0F\t3F00"), False),
+            ("a blank for the tab", changed(6, "5102 0F"), False), ("an empty line before them", changed(5, "", lines[4]), False),
+            ("an empty line behind them", changed(8, "", lines[7]), False),
+            ("a file of type 38", changed(8, "0101\t3800010000\t0\t0\t3F00"), False),
+            ("all in the root", FIRMS.replace("\t5101\n", "\t3F00\n"), False),
+            ("no directories' lines", text_of_lines(lines[:4] + lines[7:]), False)):
+        check("firms: " + name, accepts(text), expected)
+    check("firms: without a line", [number for number in range(1, 14) if accepts(changed(number))], [6, 7])
+    check("firms: a line twice", [number for number in range(1, 14) if accepts(changed(number, *[lines[number - 1]] * 2))], [])
+    free = free.replace("-\t5101\n", "-\t3F00\n", 1)
+    ends = [len(text_of_lines(free.splitlines()[:count])) for count in (4, 5, 6, 7, 9, 11, 13)]
+    check("firms: cut off", [length for length in range(len(free) + 1) if accepts(free[:length])], ends)
+
+    # The old form: no directory and no field for one. What has a directory has no such lines.
+    old = LINED.replace("\t3F00\n", "\n")
+    read, contents = texts.from_text(old.encode(), texts.OLD)
+    lined = lined_session().program
+    check("the old form, read", (snapshot(read), bytes(contents[:53])), (snapshot(lined.card), bytes(lined.area[:53])))
+    check("written in the old form", texts.to_text(read, contents, texts.OLD).decode(), old)
+    check("written in the new form", texts.to_text(read, contents).decode(), LINED)
+    for name, text, form, expected in (
+            ("the old form as new", old, texts.NEW, False), ("the new form as old", LINED, texts.OLD, False),
+            ("firms as old", FIRMS, texts.OLD, False),
+            ("a directory in the old form", old.replace("\n0101", "\n5101\t01\n0101"), texts.OLD, False),
+            ("the session alone in the new form", old.replace("\t-\n", "\t-\t3F00\n"), texts.OLD, False),
+            ("the session alone in the old form", LINED.replace("\t-\t3F00\n", "\t-\n"), texts.NEW, False)):
+        check(name, texts.from_text(text.encode(), form) is not None, expected)
+    refused = False
+    try:
+        texts.to_text(card, area, texts.OLD)
+    except ValueError:
+        refused = True
+    check("firms have no old form", refused, True)
 
 
 def test_text_lines():
@@ -838,13 +1255,13 @@ def test_text_lines():
 
 
 def test_text_sizes():
-    start = text_of_lines(LINED.splitlines()[:3]) + "0\t0\t0\t-\t-\t0\t-\n"
+    start = text_of_lines(LINED.splitlines()[:3]) + "0\t0\t0\t-\t-\t0\t-\t3F00\n"
 
     def files(*sizes):
         """Binary files of so many bytes, their SFIs from 1 on."""
         text = start
         for number, size in enumerate(sizes, 1):
-            text += "%04X\t28%04X0000\t0\t0\n" % (number, size) + ("55" * 32 + "\n") * (size // 32)
+            text += "%04X\t28%04X0000\t0\t0\t3F00\n" % (number, size) + ("55" * 32 + "\n") * (size // 32)
             if size % 32 > 0:
                 text += "66" * (size % 32) + "\n"
         return text
@@ -875,20 +1292,21 @@ def test_text_sizes():
             ("2C04320000", 1073, ("B2" + "55" * 178) * 6, False), ("2C04320000", 1075, ("B2" + "55" * 178) * 6, False),
             ("2C10000000", 4096, "0155" * 2048, True), ("2810000000", 0, "55" * 4096, True), ("2810010000", 0, "55" * 4097, False)):
         lines = [contents[place:place + 64] for place in range(0, len(contents), 64)]
-        text = start + text_of_lines(["0001\t%s\t%d\t0" % (created, held)] + lines)
+        text = start + text_of_lines(["0001\t%s\t%d\t0\t3F00" % (created, held)] + lines)
         check("a file made by %s, %d held or used" % (created, held), accepts(text), expected)
 
-    # The longest text. Credentials with sixteen bytes and three digits twice: 3 x 41. The session: 46 with the mode, and 513 with
-    # 256 waiting bytes. Sixteen cyclic files with 24 bytes a line, as held and newest have three digits: 384. All 4,096 bytes:
-    # 8,192 digits, in 143 lines where the files end 2 bytes behind a whole line: 15 x 258 + 226 = 4,096, and 15 x 9 + 8 = 143.
-    # Together 9,401.
+    # The longest text. Credentials with sixteen bytes and three digits twice: 3 x 41. The session: 46 with the mode, 513 with
+    # 256 waiting bytes, and 5 with the directory. Four directories of 8 bytes a line: 32. Sixteen cyclic files with 29 bytes a
+    # line, as held and newest have three digits: 464. All 4,096 bytes: 8,192 digits, in 143 lines where the files end 2 bytes
+    # behind a whole line: 15 x 258 + 226 = 4,096, and 15 x 9 + 8 = 143. Together 9,518.
     longest = text_of_lines(["FF" * 16 + "\t128\t128"] + ["39" * 16 + "\t128\t128"] * 2
-                            + ["1\t1\t1\tFF01\t" + "FF" * 16 + "\t1\t" + "FF" * 256])
+                            + ["1\t1\t1\tFF01\t" + "FF" * 16 + "\t1\t" + "FF" * 256 + "\tEE01"]
+                            + ["EE%02X\tC1" % number for number in range(1, 5)])
     for number in range(1, 17):
         count = 129 if number < 16 else 113
-        longest += text_of_lines(["FF%02X\t2E%02X02C1C1\t%d\t%d" % (number, count, count, count - 1)]
+        longest += text_of_lines(["FF%02X\t2E%02X02C1C1\t%d\t%d\tEE%02X" % (number, count, count, count - 1, 1 + (number - 1) // 4)]
                                  + ["FF" * 32] * (count * 2 // 32) + ["FFFF"])
-    check("the longest text", (len(longest), accepts(longest)), (9401, True))
+    check("the longest text", (len(longest), accepts(longest)), (9518, True))
 
 
 def test_text_calls():
@@ -1429,8 +1847,77 @@ class History:
             self.events.append(("user", "reload"))
 
 
+def home_of(card):
+    """The FID of the current directory, 3F00 in the root."""
+    return 0x3F00 if card.folder is None else card.folder.fid
+
+
+class Places:
+    """Where a card stands, from what was sent and answered alone: FIDs of files by directory, the current directory and file."""
+
+    def __init__(self):
+        self.clear()
+        self.selected = 0
+        self.disagreements = []
+
+    def clear(self):
+        self.made = {0x3F00: []}
+        self.home, self.current = 0x3F00, None
+
+    def watch(self, program, line, answer):
+        outcome, data, sw = answer
+        if outcome != 0:
+            return
+        if line.startswith(b"ISSUE"):
+            self.clear()
+        elif line.startswith(b"RESET"):
+            self.home, self.current = 0x3F00, None
+        else:
+            sent = script.bytes_of(line.split(b"\t")[1])
+            frame = cards.frame_of(sent)
+            _, sw = generate.as_in_mode_0(program.card, sent, data, sw)
+            if frame is not None and not self.agrees(sent, frame, sw):
+                self.disagreements.append((line, sw))
+        card = program.card
+        if (home_of(card), card.current and card.current.fid) != (self.home, self.current):
+            self.disagreements.append((line, "elsewhere"))
+
+    def agrees(self, sent, frame, sw):
+        """Whether what is found is what the commands before have made; then moves as the command does."""
+        name = next((name for cla, ins, name, _ in cards.LIST if (cla, ins) == (sent[0], sent[1])), None)
+        if name == "SELECT" and sw in (0x9000, 0x6A82):
+            self.selected += 1
+            fid = frame.data[0] << 8 | frame.data[1]
+            if fid in self.made[self.home]:
+                self.current = fid
+            elif fid in self.made:
+                self.home, self.current = fid, None
+            else:
+                return sw == 0x6A82
+            return sw == 0x9000
+        if name == "CREATE FILE" and sw in (0x9000, 0x6986):
+            fid = frame.p1 << 8 | frame.p2
+            if frame.data[0] == 0x38:
+                clash = fid in self.made or fid in self.made[0x3F00] or self.home != 0x3F00
+                if sw == 0x9000:
+                    self.made[fid] = []
+            else:
+                clash = any(fid % 32 == other % 32 for other in self.made[self.home]) or self.home == 0x3F00 and fid in self.made
+                if sw == 0x9000:
+                    self.made[self.home].append(fid)
+                    self.current = fid
+            return clash == (sw == 0x6986) and len(self.made) <= 5 and sum(map(len, self.made.values())) <= 16
+        if name in generate.FILE_COMMANDS and sw not in (0x6A86, 0x6700):
+            sfi = (frame.p1 & 0x1F if frame.p1 & 0x80 else 0) if "BINARY" in name else frame.p2 >> 3
+            named = [fid for fid in self.made[self.home] if fid % 32 == sfi] if sfi else [self.current] * (self.current is not None)
+            if sw == 0x9000:
+                self.current = named[0] if named else None
+            return (named == []) == (sw == 0x6A82)
+        return True
+
+
 class Beside:
-    """The files of one type, by SFI, in a plainer form beside the bytes that the model keeps.
+    """The files of one type, by directory and SFI, in a plainer form beside the bytes that the model keeps.
 
     Answers up to the right are taken as they come; what follows from the contents is worked out from the plain form alone.
     """
@@ -1457,14 +1944,14 @@ class Beside:
             return
         name = next(name for cla, ins, name, _ in cards.LIST if (cla, ins) == (sent[0], sent[1]))
         if name == "CREATE FILE" and sw == 0x9000 and frame.data[0] == self.kind:
-            self.files[frame.p2 & 0x1F] = self.created(frame.data[1] << 8 | frame.data[2])
+            self.files[home_of(program.card), frame.p2 & 0x1F] = self.created(frame.data[1] << 8 | frame.data[2])
         if self.words not in name or frame.case != (2 if name.startswith("READ") else 3):
             return
         # Without SFI the current file is meant, which the command did not change.
-        sfi = self.sfi_of(frame) or program.card.current.sfi
-        if sfi not in self.files:
+        place = home_of(program.card), self.sfi_of(frame) or program.card.current.sfi
+        if place not in self.files:
             return
-        expected = self.expected(name, frame, sfi)
+        expected = self.expected(name, frame, place)
         self.compared += 1
         if expected != (data, sw):
             self.disagreements.append((line, expected, (data, sw)))
@@ -1481,8 +1968,8 @@ class Lists(Beside):
     def sfi_of(self, frame):
         return frame.p2 >> 3
 
-    def expected(self, name, frame, sfi):
-        space, records = self.files[sfi]
+    def expected(self, name, frame, place):
+        space, records = self.files[place]
         if name == "APPEND RECORD":
             if len(frame.data) > 178:
                 return b"", 0x6700
@@ -1513,9 +2000,9 @@ class Contents(Beside):
     def sfi_of(self, frame):
         return frame.p1 & 0x1F if frame.p1 & 0x80 else 0
 
-    def expected(self, name, frame, sfi):
+    def expected(self, name, frame, place):
         offset = frame.p2 if frame.p1 & 0x80 else frame.p1 << 8 | frame.p2
-        before, rest = self.files[sfi][:offset], self.files[sfi][offset:]
+        before, rest = self.files[place][:offset], self.files[place][offset:]
         if rest == b"":
             return b"", 0x6A84
         if name == "READ BINARY":
@@ -1524,7 +2011,7 @@ class Contents(Beside):
             return (shown, 0x9000) if len(shown) == frame.le or frame.le == 256 else (b"", 0x6700)
         if len(frame.data) > len(rest):
             return b"", 0x6700
-        self.files[sfi] = before + frame.data + rest[len(frame.data):]
+        self.files[place] = before + frame.data + rest[len(frame.data):]
         return b"", 0x9000
 
 
@@ -1617,15 +2104,17 @@ def test_generated():
           [300] * 20)
     fetched = 0
     for seed in range(1, 4):
-        history, lists, contents, twin = History(), Lists(), Contents(), Twin()
+        history, places, lists, contents, twin = History(), Places(), Lists(), Contents(), Twin()
 
         def watch(*seen):
-            for watcher in (history, lists, contents, twin):
+            for watcher in (history, places, lists, contents, twin):
                 watcher.watch(*seen)
 
-        generate.Generator(seed, 4000, watch).write()
+        generate.Generator(seed, 6000, watch).write()
         check("rights follow from history, seed %d" % seed, history.disagreements, [])
         check("every state is sound, seed %d" % seed, history.unsound, 0)
+        check("directories follow from history, seed %d" % seed, places.disagreements[:3], [])
+        check("files and directories are selected often, seed %d" % seed, places.selected > 200, True)
         check("2C files are lists of records, seed %d" % seed, lists.disagreements[:3], [])
         check("2C files are used often, seed %d" % seed, lists.compared > 300, True)
         check("binary files are bytes, seed %d" % seed, contents.disagreements[:3], [])
@@ -1640,8 +2129,10 @@ def main():
     argparse.ArgumentParser(
         prog="python3 tests/model/selftest.py", description=__doc__, formatter_class=argparse.RawDescriptionHelpFormatter).parse_args()
     for test in (test_cipher, test_example, test_edges, test_errors_that_look_right, test_calls, test_variable_soundness,
+                 test_folder_soundness, test_folders, test_folder_rights, test_folder_select, test_folder_sfi, test_folder_limits,
                  test_variable_space, test_variable_records, test_variable_many, test_text_example, test_text_fields,
-                 test_text_lines, test_text_sizes, test_text_calls, test_text_generated, test_framing, test_files, test_read_to_end,
+                 test_text_folders, test_text_lines, test_text_sizes, test_text_calls, test_text_generated, test_framing, test_files,
+                 test_read_to_end,
                  test_response, test_rights, test_credentials, test_grammar, test_generated):
         test()
     print("%d passed, %d failed" % (passed, failed))

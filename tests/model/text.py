@@ -1,5 +1,8 @@
 """Requests R-4 and, for the session line, R-6 of document 02, over the model of the card: a whole card written as lines, and
-read from them.
+read from them, in the new form of R-8 or in the old one.
+
+The new form is the one that writer and reader use. The old one has no directories and no field that names one: only a card
+without a directory has lines of that form, and all files read from them lie in the root.
 
 Written from the papers alone, as the card is. The reader takes the text apart line by line and field by field, and refuses
 where one is not as the papers say. What it has read it then judges as a card. It never writes a text again to see whether it
@@ -18,6 +21,7 @@ HEX = re.compile(rb"(?:[0-9A-F]{2})+")
 NUMBER = re.compile(rb"0|[1-9][0-9]{0,3}")
 FLAGS = {b"0": False, b"1": True}
 MODES = {b"0": cards.AT_ONCE, b"1": cards.FETCHED}
+OLD, NEW = "old", "new"
 
 
 # ---------------------------------------------------------------------------------------------------------------------
@@ -41,12 +45,29 @@ def credential_line(credential):
     return line(hex_of(credential.value), number(credential.limit), number(credential.tries))
 
 
-def session_line(card):
+def fid_of(fid):
+    return b"%04X" % fid
+
+
+ROOT_FIELD = fid_of(cards.ROOT_FID)
+
+
+def home_field(folder):
+    """What a line ends with: a folder's FID, or 3F00 for the root."""
+    return ROOT_FIELD if folder is cards.ROOT else fid_of(folder.fid)
+
+
+def session_line(card, form=NEW):
     rights = [number(credential.held) for credential in (card.device, card.admin, card.user)]
-    current = NONE if card.current is None else b"%04X" % card.current.fid
+    current = NONE if card.current is None else fid_of(card.current.fid)
     challenge = NONE if card.challenge == cards.NO_CHALLENGE else hex_of(card.challenge)
     waiting = NONE if card.waiting == cards.NOTHING_WAITS else hex_of(card.waiting)
-    return line(*rights, current, challenge, number(card.mode), waiting)
+    homes = [home_field(card.folder)] if form == NEW else []
+    return line(*rights, current, challenge, number(card.mode), waiting, *homes)
+
+
+def folder_line(folder):
+    return line(fid_of(folder.fid), hex_of(bytes((folder.right,))))
 
 
 def created_bytes(file):
@@ -58,9 +79,10 @@ def created_bytes(file):
     return bytes((file.kind, first, second, file.read, file.write))
 
 
-def file_line(file):
+def file_line(file, form=NEW):
     held = file.used if file.kind == cards.VARIABLE else file.records
-    return line(b"%04X" % file.fid, hex_of(created_bytes(file)), number(held), number(file.newest))
+    homes = [home_field(file.folder)] if form == NEW else []
+    return line(fid_of(file.fid), hex_of(created_bytes(file)), number(held), number(file.newest), *homes)
 
 
 def content_lines(contents):
@@ -68,11 +90,14 @@ def content_lines(contents):
     return b"".join([line(hex_of(part)) for part in parts])
 
 
-def to_text(card, area):
+def to_text(card, area, form=NEW):
     """The lines of a card and the bytes of its files. Only of a sound card are they the lines of one."""
-    text = [credential_line(card.device), credential_line(card.admin), credential_line(card.user), session_line(card)]
+    if form == OLD and card.folders:
+        raise ValueError("a card with directories has no lines of the old form")
+    text = [credential_line(card.device), credential_line(card.admin), credential_line(card.user), session_line(card, form)]
+    text += [folder_line(folder) for folder in card.folders]
     for file in card.files:
-        text.append(file_line(file))
+        text.append(file_line(file, form))
         text.append(content_lines(bytes(area[file.start:file.start + file.extent])))
     return b"".join(text)
 
@@ -94,6 +119,10 @@ class Lines:
         if rest != b"":
             raise NotACard
         self.left = lines[::-1]
+
+    def next_has(self, count):
+        """Whether there is another line, and it has so many fields."""
+        return bool(self.left) and self.left[-1].count(b"\t") + 1 == count
 
     def take(self, count):
         """The fields of the next line, which has so many."""
@@ -142,9 +171,34 @@ def read_credential(lines):
     return credential
 
 
-def read_file(lines, start):
+def read_folder(lines):
+    fid, right = lines.take(2)
+    return cards.Folder(read_fid(fid), read_bytes(right, 1)[0])
+
+
+def take_with_home(lines, count, form):
+    """So many fields of the next line, and its last one, which names a folder. In the old form all is in the root."""
+    if form == OLD:
+        return lines.take(count), ROOT_FIELD
+    *fields, home = lines.take(count + 1)
+    return fields, home
+
+
+def read_home(card, field):
+    """The folder that such a field names: the root, or one of those before the files."""
+    fid = read_fid(field)
+    if fid == cards.ROOT_FID:
+        return cards.ROOT
+    for folder in card.folders:
+        if folder.fid == fid:
+            return folder
+    raise NotACard
+
+
+def read_file(lines, start, card, form):
     """A file from its line. Its bytes begin there in the area; how many lines they take is for its size to say."""
-    fid, created, held, newest = lines.take(4)
+    fields, home = take_with_home(lines, 4, form)
+    fid, created, held, newest = fields
     kind, first, second, read, write = read_bytes(created, 5)
     if kind in (cards.BINARY, cards.VARIABLE):
         size, count, length = first << 8 | second, 0, 0
@@ -158,6 +212,7 @@ def read_file(lines, start):
     else:
         file.records = read_number(held)
     file.newest = read_number(newest)
+    file.folder = read_home(card, home)
     return file
 
 
@@ -171,17 +226,19 @@ def read_contents(lines, size):
 
 
 def file_with(card, fid):
+    """The file of the current folder with that FID: the current file lies there."""
     for file in card.files:
-        if file.fid == fid:
+        if file.fid == fid and file.folder is card.folder:
             return file
     raise NotACard
 
 
-def read_card(lines):
+def read_card(lines, form):
     """The card of the lines and the data area that goes with it."""
     card = cards.Card()
     card.device, card.admin, card.user = read_credential(lines), read_credential(lines), read_credential(lines)
-    *rights, current, challenge, mode, waiting = lines.take(7)
+    fields, home = take_with_home(lines, 7, form)
+    *rights, current, challenge, mode, waiting = fields
     card.device.held, card.admin.held, card.user.held = [read_flag(right) for right in rights]
     if challenge != NONE:
         card.challenge = read_bytes(challenge)
@@ -189,12 +246,15 @@ def read_card(lines):
     if waiting != NONE:
         card.waiting = read_bytes(waiting)
 
+    # The current folder and the current file are named before folders and files are.
+    while form == NEW and lines.next_has(2):
+        card.folders.append(read_folder(lines))
+    card.folder = read_home(card, home)
     contents = bytearray()
     while lines.left:
-        file = read_file(lines, len(contents))
+        file = read_file(lines, len(contents), card, form)
         contents += read_contents(lines, file.extent)
         card.files.append(file)
-    # The current file is named before the files are.
     if current != NONE:
         card.current = file_with(card, read_fid(current))
 
@@ -207,10 +267,10 @@ def read_card(lines):
     return card, area
 
 
-def from_text(text):
+def from_text(text, form=NEW):
     """The card of a text and its data area, or None where the text is not the lines of a sound card."""
     try:
-        return read_card(Lines(text))
+        return read_card(Lines(text), form)
     except NotACard:
         return None
 

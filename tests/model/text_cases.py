@@ -43,19 +43,31 @@ def credential_bytes(credential):
     return credential.value.ljust(16, b"\x00") + bytes((len(credential.value), credential.tries, credential.limit))
 
 
-def file_bytes(file):
-    return struct.pack(">H", file.fid) + texts.created_bytes(file) + struct.pack(">BBH", file.records, file.newest, file.used)
+def place_of(card, folder):
+    """0 for the root, else a folder's place plus one."""
+    return 0 if folder is cards.ROOT else 1 + card.folders.index(folder)
+
+
+def file_bytes(card, file):
+    return (struct.pack(">H", file.fid) + texts.created_bytes(file)
+            + struct.pack(">BBHB", file.records, file.newest, file.used, place_of(card, file.folder)))
+
+
+def folder_bytes(folder):
+    return struct.pack(">HB", folder.fid, folder.right)
 
 
 def card_bytes(card):
     """The card as struct layout of tests/c/layout.h has it."""
     credentials = (card.device, card.admin, card.user)
-    files = b"".join([file_bytes(file) for file in card.files])
+    files = b"".join([file_bytes(card, file) for file in card.files])
+    folders = b"".join([folder_bytes(folder) for folder in card.folders])
     current = 0 if card.current is None else 1 + card.files.index(card.current)
     return (b"".join([credential_bytes(credential) for credential in credentials])
-            + files.ljust(16 * 11, b"\x00") + bytes((len(card.files),))
+            + files.ljust(16 * 12, b"\x00") + bytes((len(card.files),))
+            + folders.ljust(4 * 3, b"\x00") + bytes((len(card.folders),))
             + bytes([credential.held for credential in credentials]) + bytes((current,))
-            + card.challenge.ljust(16, b"\x00") + bytes((len(card.challenge),))
+            + card.challenge.ljust(16, b"\x00") + bytes((len(card.challenge), place_of(card, card.folder)))
             + struct.pack(">BH", card.mode, len(card.waiting)) + card.waiting.ljust(cards.MOST_WAITING, b"\x00"))
 
 
@@ -120,8 +132,8 @@ def copied_credential(credential):
     return copy
 
 
-def copied_file(file):
-    copy = cards.File(file.fid, file.kind, file.size, file.count, file.length, file.read, file.write, file.start)
+def copied_file(file, folder):
+    copy = cards.File(file.fid, file.kind, file.size, file.count, file.length, file.read, file.write, file.start, folder)
     copy.records, copy.newest, copy.used = file.records, file.newest, file.used
     return copy
 
@@ -142,7 +154,10 @@ class Draft:
         card = cards.Card()
         card.device, card.admin, card.user = [copied_credential(credential) for credential in self.credentials]
         card.challenge, card.mode, card.waiting = self.card.challenge, self.card.mode, self.card.waiting
-        files = [(copied_file(file), contents) for file, contents in self.files]
+        card.folders = [cards.Folder(folder.fid, folder.right) for folder in self.card.folders]
+        copies = {None: None, **dict(zip(self.card.folders, card.folders))}
+        card.folder = copies[self.card.folder]
+        files = [(copied_file(file, copies[file.folder]), contents) for file, contents in self.files]
         if self.card.current is not None:
             card.current = next(new for (new, _), (old, _) in zip(files, self.files) if old is self.card.current)
         return Draft(card, files)
@@ -154,6 +169,7 @@ class Draft:
     def text(self):
         parts = [texts.credential_line(credential) for credential in self.credentials]
         parts.append(texts.session_line(self.card))
+        parts += [texts.folder_line(folder) for folder in self.card.folders]
         for file, contents in self.files:
             parts += (texts.file_line(file), texts.content_lines(contents))
         return b"".join(parts)
@@ -161,8 +177,26 @@ class Draft:
     def room(self):
         return cards.AREA_SIZE - sum(len(contents) for _, contents in self.files)
 
-    def free_sfis(self):
-        return sorted(set(range(1, 31)) - {file.sfi for file, _ in self.files})
+    def free_sfis(self, folder=cards.ROOT):
+        """SFIs that no file of the folder has."""
+        return sorted(set(range(1, 31)) - {file.sfi for file, _ in self.files if file.folder is folder})
+
+    def free_fid(self, dice, folder):
+        """A FID for a new file of the folder, or None. No other file there has its SFI, and in the root no folder has it."""
+        free = self.free_sfis(folder)
+        taken = [other.fid for other in self.card.folders] if folder is cards.ROOT else []
+        if not free:
+            return None
+        fid = any_fid(dice, dice.pick(free))
+        return fid if fid not in taken else None
+
+    def any_folder(self, dice):
+        """The root, or one of the folders."""
+        return dice.pick([cards.ROOT] + self.card.folders)
+
+    def add_folder(self, fid, right):
+        self.card.folders.append(cards.Folder(fid, right))
+        return self.card.folders[-1]
 
     def of_kind(self, dice, kind):
         """The place of a file of that type, or None."""
@@ -187,7 +221,7 @@ def parted(dice, used):
     return bytes(made)
 
 
-def new_file(dice, fid, kind, most):
+def new_file(dice, fid, kind, most, folder=cards.ROOT):
     """A file of at most so many bytes, with contents, or None where there is no room for one of that type."""
     read, write = [dice.weighted(generate.GOOD_RIGHTS) for _ in range(2)]
     if most < 2:
@@ -196,10 +230,10 @@ def new_file(dice, fid, kind, most):
         return None
     if kind in (cards.BINARY, cards.VARIABLE):
         size = dice.between(1 if kind == cards.BINARY else 2, most)
-        file = cards.File(fid, kind, size, 0, 0, read, write, 0)
+        file = cards.File(fid, kind, size, 0, 0, read, write, 0, folder)
     else:
         length = dice.between(1, min(cards.LONGEST_RECORD, most // 2))
-        file = cards.File(fid, kind, 0, dice.between(2, min(254, most // length)), length, read, write, 0)
+        file = cards.File(fid, kind, 0, dice.between(2, min(254, most // length)), length, read, write, 0, folder)
     contents = dice.bytes(min(file.extent, 70)).ljust(file.extent, b"\x00")
     if kind == cards.CYCLIC:
         file.records = dice.pick((0, 1, file.count - 1, file.count))
@@ -229,40 +263,62 @@ def random_card(dice):
     if card.mode == cards.FETCHED:
         card.waiting = dice.bytes(dice.weighted((
             (0, 4), (1, 1), (dice.between(2, 40), 3), (dice.between(41, 254), 1), (255, 1), (256, 1))))
+    for _ in range(dice.weighted(((0, 4), (1, 4), (2, 4), (3, 1), (4, 2)))):
+        fid = any_fid(dice, dice.between(1, 30))
+        if all(folder.fid != fid for folder in card.folders):
+            draft.add_folder(fid, dice.weighted(generate.GOOD_RIGHTS))
     most = dice.weighted(((12, 3), (40, 5), (100, 4), (400, 2), (4096, 0.4)))
     for _ in range(dice.weighted(((0, 1), (1, 3), (2, 4), (4, 4), (16, 1)))):
         kind = dice.pick((cards.BINARY, cards.FIXED, cards.VARIABLE, cards.CYCLIC))
-        made = new_file(dice, any_fid(dice, dice.pick(draft.free_sfis())), kind, min(most, draft.room()))
+        folder = draft.any_folder(dice)
+        fid = draft.free_fid(dice, folder)
+        if folder is not cards.ROOT and dice.chance(0.4):
+            # As a file or a folder elsewhere has it.
+            same = [one.fid for one in [file for file, _ in draft.files] + card.folders if one.fid & 0x1F in draft.free_sfis(folder)]
+            fid = dice.pick(same) if same else fid
+        made = None if fid is None else new_file(dice, fid, kind, min(most, draft.room()), folder)
         if made is not None:
             draft.files.append(made)
-    if draft.files and dice.chance(0.7):
+    if draft.files and dice.chance(0.6):
         card.current = dice.pick(draft.files)[0]
+        card.folder = card.current.folder
+    else:
+        card.folder = draft.any_folder(dice)
     return draft.text()
 
 
-def file_lines(fid, created, held, newest, contents):
-    return texts.line(b"%04X" % fid, texts.hex_of(created), b"%d" % held, b"%d" % newest) + texts.content_lines(contents)
+def file_lines(fid, created, held, newest, contents, home=cards.ROOT_FID):
+    return texts.line(b"%04X" % fid, texts.hex_of(created), b"%d" % held, b"%d" % newest, b"%04X" % home) + texts.content_lines(contents)
 
 
-FRESH = b"FF" * 16 + b"\t128\t128\n" + b"39" * 16 + b"\t128\t128\n" + b"303132333435\t1\t0\n0\t0\t0\t-\t-\t0\t-\n"
+CREDENTIALS = b"FF" * 16 + b"\t128\t128\n" + b"39" * 16 + b"\t128\t128\n" + b"303132333435\t1\t0\n"
+FRESH = CREDENTIALS + b"0\t0\t0\t-\t-\t0\t-\t3F00\n"
 
 
 def edge_cards():
     """Texts of cards at the edges of what a card can hold."""
     longest = b"FF" * 16 + b"\t128\t128\n" + 2 * (b"39" * 16 + b"\t128\t128\n") + b"1\t1\t1\tFF01\t" + b"FF" * 16
-    longest += b"\t1\t" + b"FF" * 256 + b"\n"
+    longest += b"\t1\t" + b"FF" * 256 + b"\tFF04\n" + b"".join([b"FF%02X\tC1\n" % number for number in range(1, 5)])
     for number in range(1, 17):
         count = 129 if number < 16 else 113
-        longest += file_lines(0xFF00 + number, bytes((0x2E, count, 2, 0xC1, 0x0F)), count, count - 1, b"\xA5" * (2 * count))
+        home = 0xFF04 if number < 3 else 0x3F00 if number > 14 else 0xFF01
+        longest += file_lines(0xFF00 + number, bytes((0x2E, count, 2, 0xC1, 0x0F)), count, count - 1, b"\xA5" * (2 * count), home)
     all_types = (b"00" * 16 + b"\t5\t5\n" + b"313233343536\t3\t2\n" + b"39" * 16 + b"\t128\t128\n"
-                 + b"1\t0\t1\t0104\t0011223344556677\t1\t00FF5A\n"
+                 + b"1\t0\t1\t0104\t0011223344556677\t1\t00FF5A\t3F00\n"
                  + file_lines(0x0101, b"\x28\x00\x21\x00\x01", 0, 0, bytes(range(33)))
                  + file_lines(0x0102, b"\x2A\x02\x03\x80\x00", 0, 0, bytes(range(6)))
                  + file_lines(0x0103, b"\x2E\x03\x02\xC2\x0F", 2, 2, bytes(range(6)))
                  + file_lines(0x0104, b"\x2C\x00\x08\x83\x42", 5, 0, b"\x01\xAA\x02\xBB\xCC\x00\x00\xFF"))
+    # The same SFI in root and folders, the same FID in two folders, and a file with the FID of its own folder.
+    one = b"\x28\x00\x01\x00\x00"
+    two_firms = (CREDENTIALS + b"0\t0\t0\t5102\t-\t0\t-\t5102\n" + b"5101\t01\n5102\t0F\n511E\tC2\n0121\t00\n"
+                 + file_lines(0x0101, one, 0, 0, b"\x01") + file_lines(0x0201, one, 0, 0, b"\x02", 0x5101)
+                 + file_lines(0x0101, one, 0, 0, b"\x03", 0x5102) + file_lines(0x5102, one, 0, 0, b"\x04", 0x5102)
+                 + file_lines(0x5102, one, 0, 0, b"\x05", 0x511E))
+    empty_folders = (CREDENTIALS + b"0\t0\t0\t-\t-\t0\t-\t0001\n" + b"001E\tC1\n0001\t82\n")
     smallest = FRESH + b"".join([file_lines(0x20 + number, b"\x28\x00\x01\x00\x00", 0, 0, b"\x77") for number in range(1, 17)])
     notes = FRESH + file_lines(0x0001, b"\x2C\x10\x00\x00\x00", 4096, 0, b"\x01\x31" * 2048)
-    return FRESH, all_types, smallest, notes, longest
+    return FRESH, all_types, two_firms, empty_folders, smallest, notes, longest
 
 
 # ---------------------------------------------------------------------------------------------------------------------
@@ -293,8 +349,15 @@ class Source:
 
     def numbers(self):
         """Line and field of every number: limits, tries, held and newest."""
-        return ([(line, field) for line in range(3) for field in (1, 2)]
-                + [(line, field) for line in range(4, len(self.lines)) if b"\t" in self.lines[line] for field in (2, 3)])
+        return [(line, field) for line in range(3) for field in (1, 2)] + [(line, field) for line in self.files() for field in (2, 3)]
+
+    def files(self):
+        """The lines of files, contents apart."""
+        return [place for place, line in enumerate(self.lines) if line.count(b"\t") == 4]
+
+    def folders(self):
+        """The lines of folders."""
+        return [place for place, line in enumerate(self.lines) if line.count(b"\t") == 1]
 
     def with_line(self, place, *new):
         return joined(self.lines[:place] + list(new) + self.lines[place + 1:])
@@ -378,7 +441,7 @@ def changed_field(dice, source):
     if dice.chance(0.5):
         # The same one, where the other text has it.
         place = min(place, len(other.lines) - 1)
-        return source.with_field(place, field, (other.lines[place].split(b"\t") + [b""] * 6)[field])
+        return source.with_field(place, field, (other.lines[place].split(b"\t") + [b""] * 8)[field])
     return source.with_field(place, field, other.field(*other.any_field(dice)))
 
 
@@ -396,6 +459,103 @@ def other_mode(dice, source):
         new = dice.pick((b"-", b"-", b"00", b"A5", b"a5", b"A", b"", b"A5A", b"A5" * 255, b"A5" * 256, b"A5" * 257))
         text = Source(text, ()).with_field(3, 6, new)
     return text
+
+
+def fids_near(dice, source):
+    """FIDs that a field might wrongly hold: those of files and folders, the root's, and their neighbours."""
+    known = [source.field(place, 0) for place in source.files() + source.folders()] + [b"3F00"]
+    one = dice.pick(known)
+    near = b"%04X" % (int(one, 16) ^ 1 << dice.below(16))
+    return dice.pick((one, one, one, near, b"3F00", b"3F01", b"3F1F", b"0000", b"FFFF", b"003F", b"-", b"", b"0", b"1", b"00", b"3F",
+                      b"3f00", b"3F0", b"3F000", b"3F003F00", one.lower(), one + b" ", one[:2], one + b"00"))
+
+
+def other_home(dice, source):
+    """Another folder at the end of the session's line or a file's, or none."""
+    place = dice.pick([3, 3] + source.files() * 2)
+    field = source.lines[place].count(b"\t")
+    if dice.chance(0.15):
+        return source.with_field(place, field)
+    if dice.chance(0.1):
+        return source.with_field(place, field, source.field(place, field), fids_near(dice, source))
+    return source.with_field(place, field, fids_near(dice, source))
+
+
+def all_homes(dice, source):
+    """Every line that names a folder changed alike: all in the root, all in one folder, or without the field, as in the old form."""
+    new = dice.pick(([], [], [b"3F00"], [b"3F00"], [b"-"], [fids_near(dice, source)], [source.field(3, 7)]))
+    lines = list(source.lines)
+    places = source.files() if dice.chance(0.3) else [3] + source.files()
+    for place in places:
+        lines[place] = b"\t".join(lines[place].split(b"\t")[:-1] + new)
+    if dice.chance(0.5):
+        lines = [line for place, line in enumerate(lines) if place not in source.folders()]
+    return joined(lines)
+
+
+def other_folder(dice, source):
+    """A folder's line changed: its FID, its right, a field more or less. Its files may follow it to its new FID."""
+    places = source.folders()
+    if not places:
+        return added_folder(dice, source)
+    place = dice.pick(places)
+    fid, right = source.lines[place].split(b"\t")
+    kind = dice.below(8)
+    if kind < 2:
+        low = dice.pick((0, 31, 1, 30, dice.below(32)))
+        new = dice.pick((fids_near(dice, source), b"%04X" % (int(fid, 16) & 0xFFE0 | low), b"%04X" % dice.below(65536)))
+        if kind == 1:
+            # Wherever it is the last field or the current file's, and so in files with the same FID.
+            return source.text.replace(b"\t" + fid + b"\n", b"\t" + new + b"\n").replace(b"\n" + fid + b"\t", b"\n" + new + b"\t")
+        return source.with_field(place, 0, new)
+    if kind < 5:
+        good = [byte for byte, _ in generate.GOOD_RIGHTS]
+        return source.with_field(place, 1, b"%02X" % dice.pick((dice.pick(good), dice.pick(generate.BAD_RIGHTS), dice.below(256))))
+    if kind == 5:
+        return source.with_field(place, 1, dice.pick((b"", b"-", b"0", b"1", b"000", b"0000", b"0f", b"c1", b" 00", b"00 ", b"0x0", b"256",
+                                                      right + right, right[:1])))
+    if kind == 6:
+        return source.with_line(place, dice.pick((fid, right, fid + b"\t" + right + b"\t", fid + b"\t\t" + right, right + b"\t" + fid,
+                                                  fid + b"\t" + right + b"\t3F00", fid + right, fid + b" " + right, b"\t" + right,
+                                                  fid + b"\t38000000" + right)))
+    # CREATE's five bytes, and a line as a file's is.
+    created = fid + b"\t380000" + right + b"00"
+    return source.with_line(place, dice.pick((created, created + b"\t0\t0", created + b"\t0\t0\t3F00")))
+
+
+def added_folder(dice, source):
+    """A folder more, at any place of the text or as the first or last of the folders; up to a fifth."""
+    lines = list(source.lines)
+    count = dice.weighted(((1, 5), (5 - len(source.folders()), 2), (4 - len(source.folders()), 2)))
+    for _ in range(max(count, 1)):
+        fid = dice.weighted(((any_fid(dice, dice.between(1, 30)), 8), (any_fid(dice, dice.pick((0, 31))), 1), (0x3F00, 1)))
+        line = b"%04X\t%02X" % (fid, dice.weighted(generate.GOOD_RIGHTS))
+        if dice.chance(0.2):
+            line = fids_near(dice, source) + line[4:]
+        first, behind = 4, 4 + len(source.folders())
+        lines.insert(dice.weighted(((first, 3), (behind, 3), (dice.below(len(lines) + 1), 1), (len(lines), 1))), line)
+    return joined(lines)
+
+
+def moved_folder(dice, source):
+    """Folders in another order, a folder twice, one less, or one behind a file."""
+    places = source.folders()
+    if not places:
+        return added_folder(dice, source)
+    lines = list(source.lines)
+    place = dice.pick(places)
+    kind = dice.below(5)
+    if kind == 0:
+        other = dice.pick(places)
+        lines[place], lines[other] = lines[other], lines[place]
+    elif kind == 1:
+        lines.insert(dice.pick(places), lines[place])
+    elif kind == 2:
+        lines.pop(place)
+    else:
+        line = lines.pop(place)
+        lines.insert(dice.pick((3, len(lines), dice.between(4, len(lines)))), line)
+    return joined(lines)
 
 
 def swapped_fields(dice, source):
@@ -554,11 +714,99 @@ def current_file(dice, draft):
         draft.card.current = None
     elif kind == 1:
         draft.card.current = dice.pick(files)
+        if dice.chance(0.6):
+            draft.card.folder = draft.card.current.folder
     if kind > 1:
         # One that no file has, mostly: near one that is there, or the root.
         near = dice.pick(files).fid if files else 0x3F00
         fid = dice.pick((near ^ 1 << dice.below(16), 0x3F00, 0x0000, 0xFFFF, dice.below(65536)))
         draft.card.current = cards.File(fid, 0, 0, 0, 0, 0, 0, 0)
+
+
+def current_folder(dice, draft):
+    """Another current folder, or one that is not there, with the current file as it is, with none or with one that lies there."""
+    card = draft.card
+    card.folder = draft.any_folder(dice) if dice.chance(0.85) else cards.Folder(any_fid(dice, dice.below(32)), 0)
+    there = [file for file, _ in draft.files if file.folder is card.folder]
+    kind = dice.below(3)
+    if kind == 0:
+        card.current = None
+    elif kind == 1 and there:
+        card.current = dice.pick(there)
+
+
+def file_folder(dice, draft):
+    """A file that lies elsewhere, with the FID that it has or with one that is free there."""
+    if not draft.files:
+        return
+    if not draft.card.folders:
+        draft.add_folder(any_fid(dice, dice.between(1, 30)), dice.weighted(generate.GOOD_RIGHTS))
+    file, _ = dice.pick(draft.files)
+    file.folder = draft.any_folder(dice) if dice.chance(0.9) else cards.Folder(any_fid(dice, dice.between(1, 30)), 0)
+    if dice.chance(0.4):
+        free = draft.free_sfis(file.folder)
+        file.fid = any_fid(dice, dice.pick(free)) if free else file.fid
+    if dice.chance(0.5):
+        draft.card.current, draft.card.folder = dice.pick(((None, cards.ROOT), (file, file.folder)))
+
+
+def folder_fid(dice, draft):
+    """A folder with another FID: of a file, of another folder, with low bits at their edges, or any."""
+    folders, files = draft.card.folders, [file for file, _ in draft.files]
+    if not folders or len(folders) < cards.MOST_FOLDERS and dice.chance(0.5):
+        draft.add_folder(any_fid(dice, dice.between(1, 30)), dice.weighted(generate.GOOD_RIGHTS))
+    folder = dice.pick(folders)
+    here = [file for file in files if file.folder is cards.ROOT]
+    fid = dice.weighted((
+        (any_fid(dice, dice.pick((0, 31))), 2), (any_fid(dice, dice.pick((1, 30))), 2), (dice.pick(folders).fid, 2),
+        (dice.pick(here).fid if here else 0x3F00, 3), (dice.pick(here).fid ^ 0x20 << dice.below(11) if here else 0x3F01, 2),
+        (dice.pick(files).fid if files else 0x3F1F, 2), (any_fid(dice, dice.between(1, 30)), 2)))
+    folder.fid = fid
+
+
+def folder_right(dice, draft):
+    if not draft.card.folders:
+        draft.add_folder(any_fid(dice, dice.between(1, 30)), 0)
+    dice.pick(draft.card.folders).right = dice.pick((
+        dice.weighted(generate.GOOD_RIGHTS), dice.weighted(generate.GOOD_RIGHTS), dice.pick(generate.BAD_RIGHTS), dice.below(256)))
+
+
+def more_folders(dice, draft):
+    """Four folders, or five."""
+    count = dice.pick((4, 4, 5, 5, 6))
+    while len(draft.card.folders) < count:
+        draft.add_folder(any_fid(dice, dice.between(1, 30)), dice.weighted(generate.GOOD_RIGHTS))
+
+
+def same_sfi(dice, draft):
+    """A file with the SFI or the whole FID of another one, or the FID of a folder, there or elsewhere."""
+    if not draft.files or len(draft.files) >= cards.MOST_FILES or draft.room() < 2:
+        return
+    if not draft.card.folders:
+        draft.add_folder(any_fid(dice, dice.between(1, 30)), dice.weighted(generate.GOOD_RIGHTS))
+    folder = draft.any_folder(dice)
+    like = dice.pick([file for file, _ in draft.files] + draft.card.folders).fid
+    fid = dice.pick((like, like, like ^ 0x20 << dice.below(11)))
+    draft.files.append(new_file(dice, fid, dice.pick((cards.BINARY, cards.CYCLIC)), min(4, draft.room()), folder))
+
+
+def fewer_folders(dice, draft):
+    """A folder less, with its files or without, or folders in another order."""
+    folders = draft.card.folders
+    if not folders:
+        return
+    if dice.chance(0.4):
+        folders.append(folders.pop(0))
+        return
+    gone = folders.pop(dice.below(len(folders)))
+    if dice.chance(0.6):
+        for file, _ in draft.files:
+            if file.folder is gone:
+                file.folder = draft.any_folder(dice)
+        if draft.card.folder is gone:
+            draft.card.folder = cards.ROOT
+        if dice.chance(0.7):
+            draft.card.current = None
 
 
 def challenge(dice, draft):
@@ -586,7 +834,7 @@ def fid(dice, draft):
     if not draft.files:
         return
     file, _ = dice.pick(draft.files)
-    others = [other.sfi for other, _ in draft.files if other is not file]
+    others = [other.sfi for other, _ in draft.files if other is not file and other.folder is file.folder]
     free = sorted(set(range(1, 31)) - set(others))
     sfi = dice.weighted((
         (0, 1), (31, 1), (dice.pick(others) if others else 0, 2), (1 if 1 in free else 31, 1), (30 if 30 in free else 0, 1),
@@ -679,7 +927,10 @@ def variable_place(dice, draft):
     """The place of a 2C file, which is added where there is none."""
     place = draft.of_kind(dice, cards.VARIABLE)
     if place is None and draft.room() > 40 and draft.free_sfis() and len(draft.files) < cards.MOST_FILES:
-        draft.files.append(new_file(dice, any_fid(dice, dice.pick(draft.free_sfis())), cards.VARIABLE, 40))
+        fid = draft.free_fid(dice, cards.ROOT)
+        if fid is None:
+            return None
+        draft.files.append(new_file(dice, fid, cards.VARIABLE, 40))
         place = len(draft.files) - 1
     return place
 
@@ -768,12 +1019,14 @@ def free_bytes(dice, draft):
 def more_files(dice, draft):
     """Sixteen files, or seventeen, of a few bytes each."""
     count = dice.pick((16, 16, 17, 17, 18, 30))
-    while len(draft.files) < count and draft.free_sfis():
-        kind = dice.pick((cards.BINARY, cards.FIXED, cards.VARIABLE, cards.CYCLIC))
-        made = new_file(dice, any_fid(dice, dice.pick(draft.free_sfis())), kind, min(4, draft.room()))
-        if made is None:
+    for _ in range(2 * count):
+        folder = draft.any_folder(dice)
+        fid = draft.free_fid(dice, folder)
+        if len(draft.files) == count or draft.room() < 1:
             return
-        draft.files.append(made)
+        if fid is not None:
+            kind = dice.pick((cards.BINARY, cards.FIXED, cards.VARIABLE, cards.CYCLIC))
+            draft.files.append(new_file(dice, fid, kind, min(4, draft.room()), folder))
 
 
 def full_area(dice, draft):
@@ -816,6 +1069,11 @@ TEXT_CHANGES = (
     ("a field as another is", changed_field, 12),
     ("no file, challenge or waiting bytes, in some form", other_none, 8),
     ("another mode", other_mode, 9),
+    ("another directory on a line", other_home, 18),
+    ("another directory on all lines", all_homes, 6),
+    ("a directory's line changed", other_folder, 18),
+    ("a directory's line added", added_folder, 9),
+    ("a directory's line moved", moved_folder, 9),
     ("two fields of a line swapped", swapped_fields, 6),
     ("a line removed", removed_line, 6),
     ("a line doubled", doubled_line, 6),
@@ -842,6 +1100,13 @@ CARD_CHANGES = (
     ("tries", tries, 9),
     ("held right", held_right, 9),
     ("current file", current_file, 9),
+    ("current directory", current_folder, 12),
+    ("a file's directory", file_folder, 12),
+    ("a directory's FID", folder_fid, 15),
+    ("creation right", folder_right, 9),
+    ("four directories or more", more_folders, 4),
+    ("an SFI or FID that stands elsewhere", same_sfi, 12),
+    ("directories less or in another order", fewer_folders, 9),
     ("challenge", challenge, 6),
     ("mode and waiting bytes", waiting, 12),
     ("key or PIN", value, 9),
@@ -896,12 +1161,12 @@ def changed_texts(dice, count, kept):
 
 def random_texts(dice):
     """Bytes that are no text, up to 65,536."""
-    for length in list(range(0, 40)) + [255, 256, 4096, 9400, 9401, 9402, 16384, 65535, 65536]:
+    for length in list(range(0, 40)) + [255, 256, 4096, 9401, 9517, 9518, 9519, 16384, 65535, 65536]:
         yield dice.bytes(min(length, 4096)).ljust(length, bytes((dice.below(256),)))
         yield bytes([dice.pick(b"\t\n0123456789ABCDEF-") for _ in range(min(length, 4096))]).ljust(length, b"0")
         yield dice.pick((b"\n", b"\t", b"0", b"\x00", b"-")) * length
     longest = edge_cards()[-1]
-    for length in (9402, 10000, 65536):
+    for length in (9519, 10000, 65536):
         yield longest.ljust(length, b"\n")
         yield longest + dice.bytes(length - len(longest))
         yield (longest * 8)[:length]

@@ -100,8 +100,8 @@ def box(mode):
         for pin in ("", "12345", "12345678901234567", "12345x", "１２３４５６"):
             refused(f"no PIN: {pin!r}", "6 to 16 digits; this one was not sent", pin=pin)
         tries("63C3", "what is no PIN was not sent")
-        refused("no such file", "there is no file A104 on the card (6A82)", "--file", "A104")
-        refused("no such short number", "there is no such file on the card (6A82)", "--sfi", "4")
+        refused("no such file", "there is no file A104 in the card's root (6A82), where a box has its alarms", "--file", "A104")
+        refused("no such short number", "there is no such file in the card's root (6A82), where a box has its alarms", "--sfi", "4")
         refused("not a record file", "no records (6981)", "--file", "A102")
         refused("no such reader", "alarms: 'Some reader': there is no reader of that name", "--reader", "Some reader")
         refused("a name with bytes that are no text", "alarms: $'\\x1b[31m\\xff\\x0a': there is no", "--reader", b"\x1b[31m\xff\n")
@@ -163,6 +163,43 @@ def kinds_of_file(mode):
         largest = table(*((number, 1, 1, 1) for number in range(255, 1, -1)), file=by_number(7)) + gone(2)
         check("the largest file, 254 records", (status, out) == (0, largest), out)
         both_pins()
+
+
+ENTER, LEAVE = "00A4000002D001", "00A40000023F00"
+DIRECTORY = ["80E0D001053800000000", ENTER]  # for anybody to make files in
+OTHER_FIRM = ["80E0A101052E04080000", "00E20000080000006301020003"]  # a file of the alarm file's name, with number 99
+
+
+def directories(mode):
+    """Another firm's file is never printed, wherever the card was left."""
+    own = ["80E0A101052E04080001", "00E20000080000000101020003"]
+    rows = table((1, 1, 2, 3))
+    with prepared(mode, *own, *DIRECTORY, *OTHER_FIRM) as reader:
+        check("the device's commands were served", reader.said().count("\n< 9000\n") == 7, reader.said())
+        for name, words, above in (("by its name", (), None), ("by its short number", ("--sfi", "1"), by_number(1))):
+            client = Scriptor()
+            client.send(ENTER)
+            client.end()
+            printed(f"the root's alarms {name}, and the card was left in a directory", table((1, 1, 2, 3), file=above), *words)
+        sent = f"> {LEAVE}\n< 9000\n> 00A4000002A101\n< 9000\n"
+        check("the root is selected first, and then the file", sent in reader.said(), reader.said())
+    with prepared(mode, *DIRECTORY, *OTHER_FIRM):
+        refused("an alarm file in a directory alone", "there is no file A101 in the card's root (6A82), where a box has its alarms")
+        refused("and by its short number", "there is no such file in the card's root (6A82), where a box has its alarms", "--sfi", "1")
+    with prepared(mode, "80E0A101053800000000", "00A4000002A101", *OTHER_FIRM):
+        refused("a directory of that name", "A101 is a directory on this card, and no file (6A82)")
+    here = [True]  # in the directory; a card that forgets it by SELECT alone
+
+    def answer(command):
+        if command[1] == 0xA4:
+            here[0] = here[0] and command.hex().upper() != LEAVE
+            return b"\x90\x00"
+        if command[2] > 1:
+            return b"\x6a\x83"
+        return bytes.fromhex(f"{99 if here[0] else 1:08X}010200039000")
+
+    with made_up(answer):
+        printed("a card that was left in a directory, for certain", rows)
 
 
 def both_pins():
@@ -496,7 +533,7 @@ def unanswered():
 
     def card_answers(command):
         reads.append(command)
-        return bytes.fromhex({0xA4: "9000", 0xB2: "0000000201020003" "9000"}[command[1]]) if len(reads) < 4 else b""
+        return bytes.fromhex({0xA4: "9000", 0xB2: "0000000201020003" "9000"}[command[1]]) if len(reads) < 5 else b""
 
     with made_up(card_answers):
         got = alarms()
@@ -534,6 +571,7 @@ os.chdir(ROOT)
 for each in (0, 1):
     box(each)
     kinds_of_file(each)
+    directories(each)
 pin_files()
 terminals()
 which_card()

@@ -216,6 +216,32 @@ def change(ask):
     ask("00B2021C00", CORRECTED + "9000", "the notes are as they were before all resets")
 
 
+def directories(ask):
+    """After change: the user PIN is 246810. Another firm's file, in a directory, with the short number of the alarms."""
+    user_pin, entry = "0020000106323436383130", "00000063010200FF"
+    ask.reset()
+    ask("0082000010" + cryptogram(ask.challenge(8)), "9000", "the device login")
+    ask("80E0D001053800004000", "9000", "a directory, in which the user PIN makes files")
+    ask("00A4000002D001", "9000", "no file of the root has this FID, so it is the directory's")
+    ask("00B2010C00", "6A82", "a short number looks in the current directory alone, and it is empty")
+    ask("80E0E101052E04084040", "6982", "in it the creation right is asked, and not the device right")
+    ask(user_pin, "9000", "the user PIN is right")
+    ask("80E0D002053800004000", "6A81", "directories are made only in the root")
+    ask("80E0E101052E04084040", "9000", "the short number need only differ within its directory")
+    ask("00E2000808" + entry, "9000", "an append by short number is for the current directory too")
+    ask("00B2010C00", entry + "9000", "short number 1 is E101 here")
+    ask("00A4000002A101", "6A82", "a file of the root is found from the root alone")
+    ask("00B2010400", entry + "9000", "and a refused SELECT leaves the current file")
+    ask("00A40000023F00", "9000", "back to the root")
+    ask("00B2010400", "6A82", "and no file is current")
+    ask("00B2010C00", ALARMS[4] + "9000", "short number 1 is A101 here")
+    ask("00A4000002D001", "9000", "to the directory again")
+    ask("00B2010C00", entry + "9000", "where short number 1 is E101")
+    ask.reset()
+    ask(user_pin, "9000", "the user PIN is right")
+    ask("00B2010C00", ALARMS[4] + "9000", "a reset returns to the root")
+
+
 def either_pin(ask):
     """After change: the user PIN is 246810."""
     ask.reset()
@@ -241,7 +267,7 @@ def either_pin(ask):
 
 def session(client, mode=0):
     ask = Asking(client, mode)
-    for part in (before_login, login, alarm_file, longest, notes, blocked, reload, change, either_pin):
+    for part in (before_login, login, alarm_file, longest, notes, blocked, reload, change, directories, either_pin):
         part(ask)
 
 

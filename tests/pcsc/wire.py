@@ -328,8 +328,12 @@ def hex_of(pin):
     return pin.encode().hex()
 
 
-def new_card(tries=3, session="0\t0\t0\t-\t-\t0\t-"):
-    """The text of a card that was issued with ISSUE_WORDS."""
+ROOT_FID = "3F00"
+
+
+def new_card(tries=3, session="0\t0\t0\t-\t-\t0\t-", *rest):
+    """The text of a card that was issued with ISSUE_WORDS. rest: the current directory, where it is not the root."""
+    session = "\t".join([session, *(rest or [ROOT_FID])])
     return f"{KEY}\t128\t128\n{hex_of(ADMIN_PIN)}\t5\t5\n{hex_of(USER_PIN)}\t3\t{tries}\n{session}\n"
 
 
@@ -406,7 +410,7 @@ def made_or_loaded():
         script.write(lines_of(*LOGIN, "80E0A102052800020000", WRONG_PIN.hex().upper()))
         script.flush()
         with connected("--card", kept.path, "--prepare", script.name, *ISSUE_WORDS) as (line, reader):
-            due = new_card(2) + "A102\t2800020000\t0\t0\n0000\n"
+            due = new_card(2) + f"A102\t2800020000\t0\t0\t{ROOT_FID}\n0000\n"
             check("a prepared card is stored after its reset", kept.read() == due, kept.read())
     with kept_card(new_card()) as kept:
         os.chmod(kept.path, 0o644)
@@ -442,8 +446,41 @@ def kept_later():
         with connected("--card", kept.path) as (line, _):
             check("waiting bytes of a file are gone in the reader", line.ask(GET_RESPONSE) == "6985")
             check("and in the file", kept.read() == due, kept.read())
-    with kept_card(new_card(session="0\t0\t0\t-\t-")) as kept:
-        refused("--card with a file from before the modes", 1, "not the lines of a sound card", "--card", kept.path)
+    for name, old in (("the modes", "0\t0\t0\t-\t-"), ("the directories", "0\t0\t0\t-\t-\t0\t-")):
+        with kept_card(new_card().replace("0\t0\t0\t-\t-\t0\t-\t3F00", old)) as kept:
+            before = kept.read()
+            refused(f"--card with a file from before {name}", 1, "not the lines of a sound card", "--card", kept.path)
+            check(f"a file from before {name} is left as it is", kept.read() == before, kept.read())
+
+
+def kept_in_a_directory():
+    """The current directory is of the session: a reset, and a card that is put in, is in the root. Making one is stored."""
+    with kept_card() as kept, tempfile.NamedTemporaryFile("w", prefix="limpet-script-") as script:
+        script.write(lines_of(*LOGIN, "80E0D001053800000000", "80E0A101052800010000", "00D6810001AA", "00A4000002D001"))
+        script.flush()
+        due = new_card() + f"D001\t00\nA101\t2800010000\t0\t0\t{ROOT_FID}\nAA\n"
+        ask = [bytes.fromhex(command) for command in ("00B0810001", "00A4000002D001", "80E0E101052800010000", "00D6810001BB")]
+        with connected("--card", kept.path, "--prepare", script.name, *ISSUE_WORDS) as (line, _):
+            check("a prepared card is in the root", line.ask(ask[0]) == "AA9000" and kept.read() == due, kept.read())
+            before = kept.which()
+            check("a directory is selected, which changes nothing that lasts", line.ask(ask[1]) == "9000" and kept.which() == before)
+            check("the short number is another file's there", line.ask(ask[0]) == "6A82")
+            check("a file in it", line.ask(ask[2]) == "9000" and line.ask(ask[3]) == "9000" and line.ask(ask[0]) == "BB9000")
+            due += "E101\t2800010000\t0\t0\tD001\nBB\n"
+            check("is in the file with its directory, and the root is current there", kept.read() == due, kept.read())
+            line.put(RESET)
+            check("a reset returns to the root", line.ask(ask[0]) == "AA9000")
+            line.ask(ask[1])
+            line.put(OFF)
+            line.put(ON)
+            check("and so does the loss of power", line.ask(ask[0]) == "AA9000")
+            line.ask(ask[1])
+        with connected("--card", kept.path) as (line, _):
+            check("and the end of the reader", line.ask(ask[0]) == "AA9000")
+    with kept_card(new_card(3, "0\t0\t0\t-\t-\t0\t-", "D001") + "D001\t0F\n") as kept:
+        with connected("--card", kept.path) as (line, _):
+            check("a stored current directory is gone", line.ask(bytes.fromhex("80E0D002053800000000")) == "6982")
+            check("in the file too", kept.read() == new_card() + "D001\t0F\n", kept.read())
 
 
 def stored_before_the_answer():
@@ -614,6 +651,6 @@ def killed_at_random():
 
 
 for test in (arguments, scripts, messages, taken, broken, mode_asked, later, prepared, refused_lines, unserved, made_or_loaded,
-             kept_later, stored_before_the_answer, not_stored, each_call_fails, one_at_a_time, killed_at_random):
+             kept_later, kept_in_a_directory, stored_before_the_answer, not_stored, each_call_fails, one_at_a_time, killed_at_random):
     test()
 end()

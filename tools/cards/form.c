@@ -3,7 +3,8 @@
 #include <string.h>
 
 enum { LINE_BYTES = 32, LONGEST_RECORD = 178, HIGHEST_SHORT_NUMBER = 30, HIGHEST_LIMIT = 128, MOST_WAITING = 256 };
-enum { CREDENTIAL_FIELDS = 3, SESSION_FIELDS = 7, FILE_FIELDS = 4, MOST_FIELDS = 7 };
+enum { CREDENTIAL_FIELDS = 3, SESSION_FIELDS = 8, FOLDER_FIELDS = 2, FILE_FIELDS = 5, MOST_FIELDS = 8 };
+enum { SESSION_FIELDS_OF_6_AND_7 = 5, SESSION_FIELDS_OF_8 = 7 }; /* of earlier versions of the library */
 
 /* What is left of the text, and the fields of the line that was read last. */
 struct reading {
@@ -36,8 +37,8 @@ static void part_fields(struct reading *r, struct bytes line)
         }
 }
 
-/* The next line, which is to have so many fields. part: what stands in it. */
-static bool next_line(struct reading *r, const char *part, size_t fields)
+/* The next line, in fields. part: what stands in it. */
+static bool take_line(struct reading *r, const char *part)
 {
     const uint8_t *newline = r->rest.len == 0 ? NULL : memchr(r->rest.at, '\n', r->rest.len);
     struct bytes line;
@@ -53,7 +54,17 @@ static bool next_line(struct reading *r, const char *part, size_t fields)
     if (line.len > 0 && line.at[line.len - 1] == '\r')
         return fail(r, "it ends in CR LF in place of LF");
     part_fields(r, line);
+    return true;
+}
+
+static bool has_fields(struct reading *r, size_t fields)
+{
     return r->count == fields || fail(r, "it does not have the right number of fields, which are parted by one tab each");
+}
+
+static bool next_line(struct reading *r, const char *part, size_t fields)
+{
+    return take_line(r, part) && has_fields(r, fields);
 }
 
 static bool is_none(struct bytes field)
@@ -64,6 +75,16 @@ static bool is_none(struct bytes field)
 static bool hex_of(struct bytes field, struct hex *h, size_t bytes)
 {
     return read_hex(field, h) && h->len == bytes;
+}
+
+static bool fid_of(struct bytes field, int *fid)
+{
+    struct hex h;
+
+    if (!hex_of(field, &h, 2))
+        return false;
+    *fid = h.at[0] << 8 | h.at[1];
+    return true;
 }
 
 /* ------------------------------------------------------------ credentials and session */
@@ -154,26 +175,96 @@ static bool read_response(struct reading *r)
     return r->form->mode == 1 || r->form->waiting == 0 || fail(r, "bytes wait, and the mode is 0");
 }
 
-/* Whether the current file exists is seen when all files are read. */
+/* Of an earlier version nothing is known but that its session had so many fields. */
+static bool has_session_fields(struct reading *r)
+{
+    if (r->count == SESSION_FIELDS_OF_8)
+        return fail(r, "it has 7 fields and not 8: the file may be one of version 8, before there were directories, "
+                       "which this version cannot read yet");
+    if (r->count == SESSION_FIELDS_OF_6_AND_7)
+        return fail(r, "it has 5 fields and not 8: the file may be one of version 6 or 7, which this version cannot read");
+    return has_fields(r, SESSION_FIELDS);
+}
+
+/* Whether the current file and directory exist is seen when all are read. */
 static bool read_session(struct reading *r)
 {
-    struct hex fid = { .len = 0 };
-
-    if (!next_line(r, "session", SESSION_FIELDS) || !read_rights(r))
+    if (!take_line(r, "session") || !has_session_fields(r) || !read_rights(r))
         return false;
-    if (!is_none(r->fields[3]) && !hex_of(r->fields[3], &fid, 2))
+    if (!is_none(r->fields[3]) && !fid_of(r->fields[3], &r->form->current))
         return fail(r, "the current file is neither four upper-case hex digits nor -");
-    r->form->current = fid.len == 0 ? NO_FILE : fid.at[0] << 8 | fid.at[1];
     if (!read_challenge(r->fields[4], &r->form->challenge_size))
         return fail(r, "the challenge is neither 4, 8 or 16 bytes in upper-case hex nor -");
-    return read_response(r);
+    if (!read_response(r))
+        return false;
+    return fid_of(r->fields[7], &r->form->folder) || fail(r, "the current directory is not four upper-case hex digits");
+}
+
+/* ------------------------------------------------------------ directories */
+
+static unsigned low_bits(int fid)
+{
+    return (unsigned)fid & 0x1F;
+}
+
+static bool good_low_bits(int fid)
+{
+    return 1 <= low_bits(fid) && low_bits(fid) <= HIGHEST_SHORT_NUMBER;
+}
+
+static bool good_right(uint8_t right)
+{
+    return right == FOR_NOBODY || ((right & ~(FOR_ADMIN | FOR_USER | FOR_DEVICE | ANY_ONE)) == 0 && right != ANY_ONE);
+}
+
+/* Among those that were read before. */
+static bool is_folder(const struct form *form, int fid)
+{
+    for (size_t i = 0; i < form->folder_count; i++)
+        if (form->folders[i].fid == fid)
+            return true;
+    return false;
+}
+
+static const char *wrong_folder(const struct form *form, const struct form_folder *f)
+{
+    if (form->count > 0)
+        return "it stands behind a file, and all directories stand before the files";
+    if (!good_low_bits(f->fid))
+        return "the low five bits of its FID are not 1 to 30";
+    if (!good_right(f->right))
+        return "its creation right is not 0F, and is 02 or has a bit that is none of 80, 40, 02 and 01";
+    if (is_folder(form, f->fid))
+        return "a directory before it has the same FID";
+    return form->folder_count < MOST_FOLDERS ? NULL : "there are more than 4 directories";
+}
+
+/* Of the line that was taken. */
+static bool read_folder(struct reading *r)
+{
+    struct form_folder f;
+    struct hex right;
+    const char *wrong;
+
+    r->form->part = "directory";
+    if (!fid_of(r->fields[0], &f.fid))
+        return fail(r, "the FID is not four upper-case hex digits");
+    r->form->of = f.fid;
+    if (!hex_of(r->fields[1], &right, 1))
+        return fail(r, "the creation right is not two upper-case hex digits");
+    f.right = right.at[0];
+    wrong = wrong_folder(r->form, &f);
+    if (wrong != NULL)
+        return fail(r, wrong);
+    r->form->folders[r->form->folder_count++] = f;
+    return true;
 }
 
 /* ------------------------------------------------------------ files */
 
 unsigned short_number(const struct form_file *f)
 {
-    return (unsigned)f->fid & 0x1F;
+    return low_bits(f->fid);
 }
 
 static bool has_places(uint8_t type)
@@ -198,11 +289,6 @@ static bool good_size(const struct form_file *f)
     return (f->type == BINARY ? 1 : 2) <= bytes_taken(f) && bytes_taken(f) <= LIMPET_AREA_SIZE;
 }
 
-static bool good_rights(uint8_t rights)
-{
-    return rights == FOR_NOBODY || ((rights & ~(FOR_ADMIN | FOR_USER | FOR_DEVICE | ANY_ONE)) == 0 && rights != ANY_ONE);
-}
-
 static const char *wrong_counts(const struct form_file *f)
 {
     if (f->type == CYCLIC && f->held > f->size1)
@@ -220,15 +306,24 @@ static const char *wrong_counts(const struct form_file *f)
     return NULL;
 }
 
+static const char *wrong_home(const struct form *form, const struct form_file *f)
+{
+    if (f->folder != ROOT)
+        return is_folder(form, f->folder) ? NULL : "there is no directory with the FID of its directory";
+    return is_folder(form, f->fid) ? "it lies in the root, and a directory has the same FID" : NULL;
+}
+
 /* Among the files that were read before. */
 static const char *wrong_among(const struct form *form, const struct form_file *f)
 {
     unsigned used = bytes_taken(f);
 
     for (size_t i = 0; i < form->count; i++) {
-        used += bytes_taken(&form->files[i]);
-        if (short_number(&form->files[i]) == short_number(f))
-            return "a file before it has the same short number, the low five bits of its FID";
+        const struct form_file *before = &form->files[i];
+
+        used += bytes_taken(before);
+        if (before->folder == f->folder && short_number(before) == short_number(f))
+            return "a file before it in its directory has the same short number, the low five bits of its FID";
     }
     if (used > LIMPET_AREA_SIZE)
         return "the files take more than 4,096 bytes";
@@ -239,25 +334,26 @@ static const char *wrong_file(const struct form *form, const struct form_file *f
 {
     const char *wrong;
 
-    if (short_number(f) < 1 || short_number(f) > HIGHEST_SHORT_NUMBER)
+    if (!good_low_bits(f->fid))
         return "its short number, the low five bits of its FID, is not 1 to 30";
     if (!good_type(f->type))
         return "its type is not 28, 2A, 2C or 2E";
     if (!good_size(f))
         return "its two size bytes are not good for its type";
-    if (!good_rights(f->read) || !good_rights(f->write))
+    if (!good_right(f->read) || !good_right(f->write))
         return "a rights byte is not 0F, and is 02 or has a bit that is none of 80, 40, 02 and 01";
     wrong = wrong_counts(f);
+    if (wrong == NULL)
+        wrong = wrong_home(form, f);
     return wrong != NULL ? wrong : wrong_among(form, f);
 }
 
 static bool read_file_fields(struct reading *r, struct form_file *f)
 {
-    struct hex fid, made;
+    struct hex made;
 
-    if (!hex_of(r->fields[0], &fid, 2))
+    if (!fid_of(r->fields[0], &f->fid))
         return fail(r, "the FID is not four upper-case hex digits");
-    f->fid = fid.at[0] << 8 | fid.at[1];
     r->form->of = f->fid;
     if (!hex_of(r->fields[1], &made, 5))
         return fail(r, "type, size and rights are not ten upper-case hex digits");
@@ -266,8 +362,9 @@ static bool read_file_fields(struct reading *r, struct form_file *f)
     f->size2 = made.at[2];
     f->read = made.at[3];
     f->write = made.at[4];
-    return (read_number(r->fields[2], &f->held) && read_number(r->fields[3], &f->newest))
-        || fail(r, "records held (or used bytes) and newest place are not numbers without leading zeros");
+    if (!read_number(r->fields[2], &f->held) || !read_number(r->fields[3], &f->newest))
+        return fail(r, "records held (or used bytes) and newest place are not numbers without leading zeros");
+    return fid_of(r->fields[4], &f->folder) || fail(r, "its directory is not four upper-case hex digits");
 }
 
 /* Where one is among the records of a 2C file: how many bytes of the current one are still to come. */
@@ -327,13 +424,13 @@ static bool read_contents(struct reading *r, struct form_file *f)
     return true;
 }
 
+/* Of the line that was taken, and those of its contents. */
 static bool read_file(struct reading *r)
 {
     struct form_file f = { .fid = 0 };
     const char *wrong;
 
-    r->form->of = NO_FILE;
-    if (!next_line(r, "file", FILE_FIELDS) || !read_file_fields(r, &f))
+    if (!has_fields(r, FILE_FIELDS) || !read_file_fields(r, &f))
         return false;
     wrong = wrong_file(r->form, &f);
     if (wrong != NULL)
@@ -344,19 +441,35 @@ static bool read_file(struct reading *r)
     return true;
 }
 
+/* The number of its fields tells a directory's line from a file's. */
+static bool read_folder_or_file(struct reading *r)
+{
+    r->form->of = NO_FILE;
+    if (!take_line(r, "file"))
+        return false;
+    return r->count == FOLDER_FIELDS ? read_folder(r) : read_file(r);
+}
+
+static const char *wrong_current(const struct form *f)
+{
+    if (f->folder != ROOT && !is_folder(f, f->folder))
+        return "there is no directory with the FID of the current one";
+    for (size_t i = 0; i < f->count; i++)
+        if (f->files[i].fid == f->current && f->files[i].folder == f->folder)
+            return NULL;
+    return f->current == NO_FILE ? NULL : "the current directory has no file with the FID of the current one";
+}
+
 static bool current_exists(struct reading *r)
 {
-    struct form *f = r->form;
+    const char *wrong = wrong_current(r->form);
 
-    for (size_t i = 0; i < f->count; i++)
-        if (f->files[i].fid == f->current)
-            return true;
-    if (f->current == NO_FILE)
+    if (wrong == NULL)
         return true;
-    f->line = CREDENTIALS + 1;
-    f->part = "session";
-    f->of = NO_FILE;
-    return fail(r, "there is no file with the FID of the current one");
+    r->form->line = CREDENTIALS + 1;
+    r->form->part = "session";
+    r->form->of = NO_FILE;
+    return fail(r, wrong);
 }
 
 bool read_form(const struct card_text *t, struct form *f)
@@ -364,11 +477,11 @@ bool read_form(const struct card_text *t, struct form *f)
     struct reading r = { .rest = { t->at, t->len }, .too_long = t->len > LIMPET_TEXT_SIZE, .form = f };
     bool good = true;
 
-    *f = (struct form){ .current = NO_FILE, .of = NO_FILE };
+    *f = (struct form){ .current = NO_FILE, .folder = ROOT, .of = NO_FILE };
     for (size_t i = 0; good && i < CREDENTIALS; i++)
         good = read_credential(&r, i);
     good = good && read_session(&r);
     while (good && r.rest.len > 0)
-        good = read_file(&r);
+        good = read_folder_or_file(&r);
     return good && current_exists(&r);
 }

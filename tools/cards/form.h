@@ -10,7 +10,8 @@
 #include "card.h"
 
 enum { DEVICE_KEY, ADMIN_PIN, USER_PIN, CREDENTIALS };
-enum { MOST_FILES = 16, NO_FILE = -1 };
+enum { MOST_FILES = 16, MOST_FOLDERS = 4, NO_FILE = -1 };
+enum { ROOT = 0x3F00 }; /* the FID that stands for the root, among those of directories */
 enum { BINARY = 0x28, FIXED = 0x2A, VARIABLE = 0x2C, CYCLIC = 0x2E };
 /* Of a rights byte: those who have to be there, all of them or, with ANY_ONE, one of them. */
 enum { FOR_ADMIN = 0x80, FOR_USER = 0x40, FOR_DEVICE = 0x01, ANY_ONE = 0x02, FOR_NOBODY = 0x0F };
@@ -20,8 +21,14 @@ struct form_credential {
     bool held; /* its right */
 };
 
-struct form_file {
+/* A directory of the card. */
+struct form_folder {
     int fid;
+    uint8_t right; /* to make files in it */
+};
+
+struct form_file {
+    int fid, folder; /* folder: the FID of its directory */
     uint8_t type, size1, size2, read, write;
     uint16_t held, newest; /* held: of type 2C, the used bytes */
     unsigned records;      /* that it has now; none in a binary file */
@@ -30,9 +37,12 @@ struct form_file {
 struct form {
     struct form_credential credentials[CREDENTIALS];
     int current;             /* the FID of the current file, or NO_FILE */
+    int folder;              /* the FID of the current directory */
     unsigned challenge_size; /* 0 where there is none */
     uint16_t mode;           /* 0 or 1 */
     unsigned waiting;        /* how many bytes wait for GET RESPONSE */
+    struct form_folder folders[MOST_FOLDERS];
+    size_t folder_count;
     struct form_file files[MOST_FILES];
     size_t count;
 
@@ -40,7 +50,7 @@ struct form {
     const char *wrong;
     size_t line;      /* the number of the line */
     const char *part; /* what stands in that line */
-    int of;           /* the FID of the file that it belongs to, or NO_FILE */
+    int of;           /* the FID of the directory that it is, or of the file that it belongs to, or NO_FILE */
 };
 
 /* Reads the text. Whether nothing is wrong with it. */

@@ -1,6 +1,7 @@
 #include "show.h"
 
 #include <stdio.h>
+#include <string.h>
 
 static const char *plural(unsigned count)
 {
@@ -42,6 +43,10 @@ static void show_session(const struct form *f)
             printf("%s%s", before, held[i]);
             before = ", ";
         }
+    if (f->folder != ROOT) {
+        printf("%scurrent directory %04X", before, (unsigned)f->folder);
+        before = ", ";
+    }
     if (f->current != NO_FILE) {
         printf("%scurrent file %04X", before, (unsigned)f->current);
         before = ", ";
@@ -64,6 +69,7 @@ static void show_room(const struct form *f)
     for (size_t i = 0; i < f->count; i++)
         used += bytes_taken(&f->files[i]);
     printf("files       %zu of %d\n", f->count, MOST_FILES);
+    printf("directories %zu of %d\n", f->folder_count, MOST_FOLDERS);
     printf("free space  %u of %d bytes\n", LIMPET_AREA_SIZE - used, LIMPET_AREA_SIZE);
 }
 
@@ -84,16 +90,16 @@ static const char *type_name(uint8_t type)
 static void show_size(const struct form_file *f)
 {
     if (f->type == BINARY || f->type == VARIABLE)
-        printf("  size   %u byte%s\n", bytes_taken(f), plural(bytes_taken(f)));
+        printf("    size   %u byte%s\n", bytes_taken(f), plural(bytes_taken(f)));
     else
-        printf("  size   %u records of %u byte%s\n", (unsigned)f->size1, (unsigned)f->size2, plural(f->size2));
+        printf("    size   %u records of %u byte%s\n", (unsigned)f->size1, (unsigned)f->size2, plural(f->size2));
 }
 
 static void show_holds(const struct form_file *f)
 {
     if (f->type == BINARY)
         return;
-    printf("  holds  %u record%s", f->records, plural(f->records));
+    printf("    holds  %u record%s", f->records, plural(f->records));
     if (f->type == VARIABLE)
         printf(", %u of %u bytes used", (unsigned)f->held, bytes_taken(f));
     else if (f->type == CYCLIC && f->held == f->size1)
@@ -101,7 +107,8 @@ static void show_holds(const struct form_file *f)
     putchar('\n');
 }
 
-static void show_right(const char *what, uint8_t right)
+/* Who may, and a newline. */
+static void show_right(uint8_t right)
 {
     static const struct {
         uint8_t bit;
@@ -109,7 +116,6 @@ static void show_right(const char *what, uint8_t right)
     } words[] = { { FOR_ADMIN, "admin PIN" }, { FOR_USER, "user PIN" }, { FOR_DEVICE, "device" } };
     const char *before = "", *between = (right & ANY_ONE) != 0 ? " or " : " and ";
 
-    printf("  %-5s  ", what);
     if (right == 0)
         fputs("anybody", stdout);
     else if (right == FOR_NOBODY)
@@ -123,14 +129,32 @@ static void show_right(const char *what, uint8_t right)
     putchar('\n');
 }
 
-static void show_file(const struct form_file *f)
+static void show_file(const struct form_file *f, bool current)
 {
-    printf("\nfile %04X, short number %u: %s (type %02X)\n",
-           (unsigned)f->fid, short_number(f), type_name(f->type), (unsigned)f->type);
+    printf("\n  file %04X, short number %u: %s (type %02X)%s\n",
+           (unsigned)f->fid, short_number(f), type_name(f->type), (unsigned)f->type, current ? ", the current file" : "");
     show_size(f);
-    show_right("read", f->read);
-    show_right("write", f->write);
+    fputs("    read   ", stdout);
+    show_right(f->read);
+    fputs("    write  ", stdout);
+    show_right(f->write);
     show_holds(f);
+}
+
+/* A directory, or the root, and its files in the order in which they were made. */
+static void show_folder(const struct form *f, const char *kind, int fid, uint8_t right)
+{
+    size_t count = 0;
+
+    printf("\n%s %04X%s\n  new files  ", kind, (unsigned)fid, f->folder == fid ? ", the current directory" : "");
+    show_right(right);
+    for (size_t i = 0; i < f->count; i++)
+        if (f->files[i].folder == fid) {
+            show_file(&f->files[i], f->folder == fid && f->files[i].fid == f->current);
+            count++;
+        }
+    if (count == 0)
+        puts("  no files");
 }
 
 void show_card(const struct form *f)
@@ -139,8 +163,9 @@ void show_card(const struct form *f)
     show_mode(f);
     show_session(f);
     show_room(f);
-    for (size_t i = 0; i < f->count; i++)
-        show_file(&f->files[i]);
+    show_folder(f, "root", ROOT, FOR_DEVICE);
+    for (size_t i = 0; i < f->folder_count; i++)
+        show_folder(f, "directory", f->folders[i].fid, f->folders[i].right);
 }
 
 void show_verdict(const char *path, bool accepted, const struct form *f)
@@ -152,7 +177,7 @@ void show_verdict(const char *path, bool accepted, const struct form *f)
     } else {
         printf("%s: refused, at line %zu (%s", path, f->line, f->part);
         if (f->of != NO_FILE)
-            printf("%s %04X", f->part[0] == 'f' ? "" : " of file", (unsigned)f->of);
+            printf("%s %04X", strcmp(f->part, "contents") == 0 ? " of file" : "", (unsigned)f->of);
         printf("): %s\n", f->wrong);
     }
 }

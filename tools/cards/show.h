@@ -4,7 +4,7 @@
 
 #include "form.h"
 
-/* Prints tries, mode, session, files and free space, and no secret. */
+/* Prints tries, mode, session, free space, and the files as a tree of directories; and no secret. */
 void show_card(const struct form *f);
 
 /* Prints the verdict. f: what the plain parser found; it explains a refusal where it found something wrong too. */

@@ -30,11 +30,14 @@ module _ {served : Bool} {xs : List ℕ} {at : ℕ} {ys l l′ : List ℕ} where
 pub files : Files
 files = record {
   state-new-file = λ κs a x y. returned;
+  state-in-folder = λ κs a x y. returned;
+  state-new-folder = λ κs a x y. returned;
   state-blank-file = λ κs a x y. returned;
   state-with-newest = λ κs a x y. returned;
   state-with-used = λ κs a x y. returned;
   state-no-files = λ κs a x y. returned;
   state-added = λ κs a x y. returned;
+  state-added-folder = λ κs a x y. returned;
   and-or-both = λ κs a x y. returned;
   and-or-either = λ κs a x y. returned;
   numbers-wide = λ κs a x y. bounded;
@@ -52,13 +55,14 @@ files = record {
   sizes-good-shape = λ κs a x y. returned;
   places-used = λ κs a x y. bounded;
   places-file = λ κs a x y. returned;
+  places-folder = λ κs a x y. returned;
   places-start = λ κs a x y. bounded;
   places-end = λ κs a x y. bounded;
   places-is-place = λ κs a x y. returned;
   places-extent = λ κs a x y. returned;
   find-find-fid = λ κs a x y. returned;
   find-find-sfi = λ κs a x y. returned;
-  find-sfi-unused = λ κs a x y. returned;
+  find-find-folder = λ κs a x y. returned;
   run-show = λ κs a x y p q i. let z = reading p q i in (z .0, (tt, (tt, (tt, (z .1, tt)))));
   run-store = λ κs a x y p q i. let z = writing p q i in (z .0, (z .1, (tt, (tt, tt))));
   run-clear = λ κs a x y p q i. (tt, (one-answer p q i, tt));
@@ -76,7 +80,11 @@ files = record {
   record-append = λ κs a x y p q i. let z = file-writing p q i in (z .0, (tt, (z .1, (tt, tt))));
   create-good-sfi = λ κs a x y. returned;
   create-good-contents = λ κs a x y. returned;
+  create-name-unused = λ κs a x y. returned;
   create-room = λ κs a x y. returned;
+  create-fid-unused = λ κs a x y. returned;
+  create-folder-room = λ κs a x y. returned;
+  create-create-folder = λ κs a x y. returned;
   sound-is-sound = λ κs a x y. returned;
   area-read-binary = λ κs a x y p q i. let z = reading p q i in (z .0, (tt, (tt, (tt, (tt, (tt, (z .1, tt)))))));
   area-update-binary = λ κs a x y p q i. let z = writing p q i in (z .0, (tt, (tt, (z .1, (tt, (tt, tt))))));

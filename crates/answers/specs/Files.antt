@@ -4,11 +4,14 @@ use Rattle.answers.specs.OneAnswer.{OneAnswer}
 
 pub record Files : Type 0 where
   pub state-new-file : OneAnswer files.state.new_file.ended files.state.new_file.Reads.Learnt
+  pub state-in-folder : OneAnswer files.state.in_folder.ended files.state.in_folder.Reads.Learnt
+  pub state-new-folder : OneAnswer files.state.new_folder.ended files.state.new_folder.Reads.Learnt
   pub state-blank-file : OneAnswer files.state.blank_file.ended files.state.blank_file.Reads.Learnt
   pub state-with-newest : OneAnswer files.state.with_newest.ended files.state.with_newest.Reads.Learnt
   pub state-with-used : OneAnswer files.state.with_used.ended files.state.with_used.Reads.Learnt
   pub state-no-files : OneAnswer files.state.no_files.ended files.state.no_files.Reads.Learnt
   pub state-added : OneAnswer files.state.added.ended files.state.added.Reads.Learnt
+  pub state-added-folder : OneAnswer files.state.added_folder.ended files.state.added_folder.Reads.Learnt
   pub and-or-both : OneAnswer files.and_or.both.ended files.and_or.both.Reads.Learnt
   pub and-or-either : OneAnswer files.and_or.either.ended files.and_or.either.Reads.Learnt
   pub numbers-wide : OneAnswer files.numbers.wide.ended files.numbers.wide.Reads.Learnt
@@ -26,13 +29,14 @@ pub record Files : Type 0 where
   pub sizes-good-shape : OneAnswer files.sizes.good_shape.ended files.sizes.good_shape.Reads.Learnt
   pub places-used : OneAnswer files.places.used.ended files.places.used.Reads.Learnt
   pub places-file : OneAnswer files.places.file.ended files.places.file.Reads.Learnt
+  pub places-folder : OneAnswer files.places.folder.ended files.places.folder.Reads.Learnt
   pub places-start : OneAnswer files.places.start.ended files.places.start.Reads.Learnt
   pub places-end : OneAnswer files.places.end.ended files.places.end.Reads.Learnt
   pub places-is-place : OneAnswer files.places.is_place.ended files.places.is_place.Reads.Learnt
   pub places-extent : OneAnswer files.places.extent.ended files.places.extent.Reads.Learnt
   pub find-find-fid : OneAnswer files.find.find_fid.ended files.find.find_fid.Reads.Learnt
   pub find-find-sfi : OneAnswer files.find.find_sfi.ended files.find.find_sfi.Reads.Learnt
-  pub find-sfi-unused : OneAnswer files.find.sfi_unused.ended files.find.sfi_unused.Reads.Learnt
+  pub find-find-folder : OneAnswer files.find.find_folder.ended files.find.find_folder.Reads.Learnt
   pub run-show : OneAnswer files.run.show.ended files.run.show.Reads.Learnt
   pub run-store : OneAnswer files.run.store.ended files.run.store.Reads.Learnt
   pub run-clear : OneAnswer files.run.clear.ended files.run.clear.Reads.Learnt
@@ -50,7 +54,11 @@ pub record Files : Type 0 where
   pub record-append : OneAnswer files.record.append.ended files.record.append.Reads.Learnt
   pub create-good-sfi : OneAnswer files.create.good_sfi.ended files.create.good_sfi.Reads.Learnt
   pub create-good-contents : OneAnswer files.create.good_contents.ended files.create.good_contents.Reads.Learnt
+  pub create-name-unused : OneAnswer files.create.name_unused.ended files.create.name_unused.Reads.Learnt
   pub create-room : OneAnswer files.create.room.ended files.create.room.Reads.Learnt
+  pub create-fid-unused : OneAnswer files.create.fid_unused.ended files.create.fid_unused.Reads.Learnt
+  pub create-folder-room : OneAnswer files.create.folder_room.ended files.create.folder_room.Reads.Learnt
+  pub create-create-folder : OneAnswer files.create.create_folder.ended files.create.create_folder.Reads.Learnt
   pub sound-is-sound : OneAnswer files.sound.is_sound.ended files.sound.is_sound.Reads.Learnt
   pub area-read-binary : OneAnswer files.area.read_binary.ended files.area.read_binary.Reads.Learnt
   pub area-update-binary : OneAnswer files.area.update_binary.ended files.area.update_binary.Reads.Learnt

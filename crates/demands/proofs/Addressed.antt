@@ -1,14 +1,13 @@
 -- The file that a command is to alter or to show, by the rules' roles and targets, is the one that its bytes name.
 use Prim.Native.Nat.{ℕ, _≤_}
-use mathlib.Core.List.{List}
-use mathlib.Core.Logic.{_⊎_, inl, inr}
-use mathlib.Core.Path.{_≡_, sym, subst}
+use mathlib.Core.Logic.{inl, inr}
+use mathlib.Core.Path.{_≡_, subst}
 use native.Mathlib.Omega.{arith}
 use Rattle.rules.specs.declared.Card.{Card}
 use Rattle.rules.specs.declared.Ins.{Ins}
 use Rattle.rules.specs.declared.Ins.the-variants.{Select, ReadBinary, UpdateBinary, ReadRecord, UpdateRecord, AppendRecord, Verify, Authenticate, ChangePin, ReloadPin, CreateFile, GetChallenge, GetResponse, Unlisted}
 use Rattle.rules.specs.Frame.{Command}
-use Rattle.rules.specs.List.{listed, Role, touchesNothing, readsBinary, readsRecord, writesBinary, writesRecord, makesFile, presentsPin, presentsKey, changesPin, reloadsPin, asksChallenge, role}
+use Rattle.rules.specs.List.{listed, Role, touchesNothing, selects, readsBinary, readsRecord, writesBinary, writesRecord, makesFile, presentsPin, presentsKey, changesPin, reloadsPin, asksChallenge, role}
 use Rattle.rules.specs.Binary.{target, binaryTarget}
 use Rattle.rules.specs.Record.{recordTarget}
 use Rattle.rules.proofs.Good.{Good}
@@ -21,6 +20,7 @@ use Rattle.demands.proofs.Named.{target-named}
 -- the file that a command is to alter, an UPDATE BINARY, UPDATE RECORD or APPEND RECORD: its place plus one, 0 for none
 unfoldable pub writesTo : Role → Card → Command → ℕ
 writesTo touchesNothing c k = 0
+writesTo selects c k = 0
 writesTo readsBinary c k = 0
 writesTo readsRecord c k = 0
 writesTo writesBinary c k = binaryTarget c k
@@ -35,6 +35,7 @@ writesTo asksChallenge c k = 0
 -- the file that a command is to show, a READ BINARY or READ RECORD
 unfoldable pub readsFrom : Role → Card → Command → ℕ
 readsFrom touchesNothing c k = 0
+readsFrom selects c k = 0
 readsFrom readsBinary c k = binaryTarget c k
 readsFrom readsRecord c k = recordTarget c k
 readsFrom writesBinary c k = 0

@@ -12,10 +12,10 @@ use Rattle.files.specs.declared.Directory.{Directory}
 use Rattle.files.specs.State.{emptied}
 use Rattle.files.specs.Types.{size}
 use Rattle.files.specs.Part.{splice}
-use Rattle.files.specs.Directory.{file, start, extent}
+use Rattle.files.specs.Directory.{fileAt, startAt, start, extent}
 use Rattle.files.specs.Record.{nextStart, appended, partedFile}
 use Rattle.files.specs.Listed.{SameLengths}
-use Rattle.files.specs.Create.{created}
+use Rattle.files.specs.Create.{created, founded}
 use Rattle.files.proofs.Checks.{split}
 use Rattle.files.proofs.Parts.{Apart, part-apart, part-splice-in, part-length}
 use Rattle.files.proofs.Extents.{within-apart, file-set, file-other, used-is, start-before, start-same, start-next}
@@ -28,7 +28,7 @@ use Rattle.rules.specs.Words.{same}
 use Rattle.rules.specs.State.{Which}
 use Rattle.rules.specs.Sound.{sound}
 use Rattle.rules.specs.Frame.{Command}
-use Rattle.rules.specs.Effect.{Deed, turns, shows, stores, appends, makes, Touch, nothing, presents, changes, reloads, challenges, Effect, effect, answers}
+use Rattle.rules.specs.Effect.{Deed, turns, enters, shows, stores, appends, makes, founds, Touch, nothing, presents, changes, reloads, challenges, Effect, effect, answers}
 use Rattle.rules.specs.Binary.{fileOf, opens}
 use Rattle.rules.specs.Record.{recordFound}
 use Rattle.rules.specs.Pins.{comparedAt, compared}
@@ -62,11 +62,11 @@ pub record Treats (c : Card) (area : List ℕ) (place : ℕ) (r : Role) (k : Com
   pub kept : Kept c place e ⊎ (By c place (writesTo r c k) (λ f. f .write) × Wrote c area place e)
   pub hidden : Apart (start (c .directory) place) (size (fileOf c place)) (e .from) (e .shows) ⊎ By c place (readsFrom r c k) (λ f. f .read)
 
--- a comparison leaves the files
+-- a comparison leaves the files, the directories and which is current
 pub compare-by : (P : Effect → Type 0) (w : Which) (c : Card) (agrees : Bool)
-    → ((sw : ℕ) (x : Card) → x .directory ≡ c .directory → P (answers sw x)) → P (compared w c agrees)
+    → ((sw : ℕ) (x : Card) → x .directory ≡ c .directory → x .session .folder ≡ c .session .folder → P (answers sw x)) → P (compared w c agrees)
 unfolding comparedAt
-compare-by P w c agrees f = split P agrees (λ e. f _ _ refl) (λ e. f _ _ refl)
+compare-by P w c agrees f = split P agrees (λ e. f _ _ refl refl) (λ e. f _ _ refl refl)
 
 module _ (c : Card) (area : List ℕ) (h : sound c area ≡ true) (place : ℕ) (some : 1 ≤ place) (low : place ≤ c .directory .count) (k : Command) where
   abbrev g : Good c
@@ -106,18 +106,20 @@ module _ (c : Card) (area : List ℕ) (h : sound c area ≡ true) (place : ℕ) 
 
   module _ (i : Ins) where
     -- nothing stored or shown, no file changed
-    none : (sw : ℕ) (x : Card) (said : List ℕ) → x .directory ≡ c .directory → Treats c area place (role i) k (effect sw x said 0 0 0 [])
-    none sw x said q = record {
-      there = rw q low;
-      start-is = ap (λ (x : Directory). start x place) q;
-      size-is = ap (λ (x : Directory). size (file x place)) q;
-      kept = inl (record { file-is = ap (λ (x : Directory). file x place) q; apart = inr (omega arith) });
+    none : (sw : ℕ) (x : Card) (said : List ℕ) → x .directory .files ≡ c .directory .files → x .directory .count ≡ c .directory .count
+        → Treats c area place (role i) k (effect sw x said 0 0 0 [])
+    none sw x said q n = record {
+      there = rw n low;
+      start-is = ap (λ (z : List File). startAt z (place - 1)) q;
+      size-is = ap (λ (z : List File). size (fileAt z (place - 1))) q;
+      kept = inl (record { file-is = ap (λ (z : List File). fileAt z (place - 1)) q; apart = inr (omega arith) });
       hidden = inl (inr (omega arith));
     }
 
     deed-treats : (x : Deed) → Fair i c area k x → Treats c area place (role i) k (did c x)
-    unfolding created
-    deed-treats (turns t) q = none _ _ [] refl
+    unfolding created founded
+    deed-treats (turns t) q = none _ _ [] refl refl
+    deed-treats (enters n) q = none _ _ [] refl refl
     deed-treats (shows t a n) q = record {
       there = low;
       start-is = refl;
@@ -161,17 +163,18 @@ module _ (c : Card) (area : List ℕ) (h : sound c area ≡ true) (place : ℕ) 
           kept = inl (record { file-is = before; apart = rw at-end (inl next) });
           hidden = inl (inr (omega arith));
         }
+    deed-treats (founds x) q = none _ _ [] refl refl
 
     module _ (random : List ℕ) where
       touch-treats : (t : Touch) → Treats c area place (role i) k (touched c t random)
-      touch-treats nothing = none _ _ [] refl
-      touch-treats (presents w value given) = compare-by (Treats c area place (role i) k) w c (same value given) (λ sw x e. none sw x [] e)
-      touch-treats (changes w bytes) = none _ _ [] refl
-      touch-treats (reloads w bytes) = none _ _ [] refl
-      touch-treats (challenges n) = none 0x9000 c (take n random) refl
+      touch-treats nothing = none _ _ [] refl refl
+      touch-treats (presents w value given) = compare-by (Treats c area place (role i) k) w c (same value given) (λ sw x e n. none sw x [] (ap (λ (z : Directory). z .files) e) (ap (λ (z : Directory). z .count) e))
+      touch-treats (changes w bytes) = none _ _ [] refl refl
+      touch-treats (reloads w bytes) = none _ _ [] refl refl
+      touch-treats (challenges n) = none 0x9000 c (take n random) refl refl
 
       pub treats : Treats c area place (role i) k (outcome i c (recordFound c area k) k random)
-      treats = by-rule (Treats c area place (role i) k) i c area h k random deed-treats (λ t q. touch-treats t) (λ sw. none sw c [] refl)
+      treats = by-rule (Treats c area place (role i) k) i c area h k random deed-treats (λ t q. touch-treats t) (λ sw. none sw c [] refl refl)
 
 -- the file's extent afterwards: parted again, and with the same length bytes on areas that had them
 module _ (c : Card) (area : List ℕ) (place : ℕ) (r : Role) (k : Command) (e : Effect) (w : Treats c area place r k e)

@@ -1,46 +1,53 @@
 -- Files over any list of calls after a served issue, with the rights of the ledger.
-use Prim.Native.Nat.{ℕ, _+_, _≤_}
+use Prim.Native.Nat.{ℕ, _+_, _-_, _≤_}
 use mathlib.Core.Bool.{Bool, true, false, cond}
-use mathlib.Core.List.{List, _++_}
+use mathlib.Core.List.{List, [], _∷_, _++_}
 use mathlib.Core.Logic.{_⊎_, inl, inr, ⊎-elim}
 use mathlib.Core.Path.{_≡_, refl, sym, ap, ap₂, _∙_, subst}
+use native.Mathlib.Omega.{arith}
 use lib.ListN.{length}
+use lib.Seq.{getD-set-same}
 use lib.Dec.{eqb, leb}
-use borrow.Author.Tests.{eq-eqb}
+use borrow.Author.Tests.{eqb-true, eq-eqb, ne-eqb}
 use Rattle.files.specs.declared.File.{File}
 use Rattle.files.specs.declared.Directory.{Directory}
-use Rattle.files.specs.State.{emptied}
-use Rattle.files.specs.Part.{over, zeros, splice}
+use Rattle.files.specs.declared.Located.{Located}
+use Rattle.files.specs.State.{emptied, blankFolder}
+use Rattle.files.specs.Part.{part, over, zeros, splice}
 use Rattle.files.specs.Types.{size}
-use Rattle.files.specs.Directory.{start, extent, isPlace, inArea}
-use Rattle.files.specs.Words.{two}
-use Rattle.files.specs.Create.{areaSize, created, creates}
-use Rattle.files.proofs.Checks.{split}
+use Rattle.files.specs.Directory.{fileAt, start, extent, isPlace, inArea}
+use Rattle.files.specs.Words.{isZero, two}
+use Rattle.files.specs.Create.{areaSize, created, creates, founded}
+use Rattle.files.proofs.Checks.{clash, split}
 use Rattle.files.proofs.Parts.{part-apart}
 use Rattle.files.proofs.Extents.{lies}
 use Rattle.files.proofs.Kept.{filed, lies-in-area}
+use Rattle.files.proofs.Making.{founding}
 use Rattle.files.proofs.Stays.{new-file, new-zero}
 use Rattle.rules.specs.declared.Card.{Card}
 use Rattle.rules.specs.declared.Ins.{Ins}
-use Rattle.rules.specs.declared.Ins.the-variants.{CreateFile}
-use Rattle.rules.specs.Words.{same, swBytes}
-use Rattle.rules.specs.State.{Which, device, marked, Login, login, mode, waiting, withWaiting}
-use Rattle.rules.specs.Frame.{Command, framed}
-use Rattle.rules.specs.Effect.{Deed, turns, shows, stores, appends, makes, Touch, nothing, presents, changes, reloads, challenges, Effect}
+use Rattle.rules.specs.declared.Ins.the-variants.{Select, CreateFile}
+use Rattle.rules.specs.Words.{first, same, swBytes}
+use Rattle.rules.specs.State.{Which, device, admin, user, marked, Login, login, mode, waiting, withWaiting}
+use Rattle.rules.specs.Frame.{Command, framed, frameSw, classSw}
+use Rattle.rules.specs.Effect.{Deed, turns, enters, shows, stores, appends, makes, founds, Touch, nothing, presents, changes, reloads, challenges, Effect}
 use Rattle.rules.specs.Binary.{fileOf, opens}
 use Rattle.rules.specs.Record.{recordFound}
-use Rattle.rules.specs.List.{listed, Role, role}
+use Rattle.rules.specs.Select.{selected}
+use Rattle.rules.specs.Create.{creationRight}
+use Rattle.rules.specs.List.{listed, isGetResponse, Role, role, rule}
 use Rattle.rules.specs.Response.{waitSw, fetchCount, fetches}
-use Rattle.rules.specs.Step.{did, touched, outcome, Stepped, settled, atOnce, waits, delivered, gives, unchanged, fetchSw, fetched, step}
+use Rattle.rules.specs.Step.{did, touched, checks, effectOf, swOf, ruled, outcome, Stepped, settled, atOnce, waits, delivered, gives, unchanged, fetchSw, fetched, step}
 use Rattle.rules.specs.Calls.{replySize, randomSize, answer, refused, served, command}
 use Rattle.rules.proofs.Good.{sound-good, sound-parted}
 use Rattle.rules.proofs.Targets.{place-named}
-use Rattle.demands.specs.Ledger.{Event, sent, resets, isHeld, Label, labelGiven, sizeOf, labelIn, Ledger, page, servable, ledger, heldIn}
+use Rattle.demands.specs.Ledger.{Event, sent, resets, isHeld, Label, Tag, noLabel, labelGiven, tagGiven, sizeOf, labelIn, tagIn, Ledger, page, selectSw, servable, ledger, heldIn}
 use Rattle.demands.specs.Run.{World, world, called, after}
-use Rattle.demands.specs.Files.{Labelled, FilesFollow, Written, Read, Writes, Stays, Altered, AlikeBut, SameBut, Shown, Made, Makes, Created}
-use Rattle.demands.specs.Held.{labelOf, Opens, IsFile, labelNo}
+use Rattle.demands.specs.Files.{Labelled, FilesFollow, Written, Read, Writes, Stays, Altered, AlikeBut, SameBut, Shown, Made, MadeDirectory, NoneMade, Makes, Created}
+use Rattle.demands.specs.Held.{labelOf, Opens, MayCreate, IsFile, labelNo, tagNo}
 use Rattle.demands.specs.Framing.{NamedBy}
-use Rattle.demands.proofs.Labels.{label-size, each-at}
+use Rattle.demands.proofs.Trees.{each-at}
+use Rattle.demands.proofs.Labels.{label-size, right-is, device-asked, select-same}
 use Rattle.demands.proofs.Rows.{Fair, by-rule}
 use Rattle.demands.proofs.Delivered.{fetched-by, step-by}
 use Rattle.demands.proofs.Soundness.{leaves}
@@ -66,13 +73,14 @@ module _ (c : Card) (l : Ledger) (agree : Agree c l) where
 module _ (c : Card) (area : List ℕ) (live : Live (world c area)) (l : Ledger) (agree : Agree c l) where
   pub labels-told : Labelled c l
   labels-told = record {
-    count-is = agree .labels-are .count-is;
-    label-is = λ n here. each-at (c .directory .files) (l .labels) n (here .first) (rw (← agree .labels-are .count-is) (here .last)) (agree .labels-are .each-is);
+    count-is = agree .tree-is .count-is;
+    label-is = λ n here.
+        each-at Label noLabel (λ i. labelOf (fileAt (c .directory .files) i)) (l .tree .labels) n (here .first) (rw (← agree .tree-is .count-is) (here .last)) (agree .tree-is .each-label);
   }
 
   -- a right of a file is that of its label
   pub right-told : (place : ℕ) → IsFile c place → (right : Label → ℕ) → opens c (right (labelNo c place)) ≡ true
-      → Opens (heldIn l) (right (labelIn (l .labels) place))
+      → Opens (heldIn l) (right (labelIn (l .tree .labels) place))
   right-told place here right h = rw (← labels-told .label-is place here) (opens-told c l agree _ h)
 
 -- two steps that are the same but for a file's bytes
@@ -227,6 +235,55 @@ module _ (c : Card) (area : List ℕ) (live : Live (world c area)) (l : Ledger) 
 pub files-follow : FilesFollow
 files-follow o area es h = labels-told _ _ (after-live o area es h) (ledger o es) (follows o area es h)
 
+-- the status word of a rule is that of its checks, where what it does answers 9000
+ruled-sw : (sw : ℕ) (c : Card) (e : Effect) → e .sw ≡ 0x9000 → ruled sw c e .sw ≡ sw
+ruled-sw sw c e h = split (λ (x : Effect). x .sw ≡ sw) (eqb sw 0x9000) (λ q. h ∙ sym (eqb-true sw 0x9000 q)) (λ q. refl)
+
+-- what says nothing, shows nothing and ends 9000
+record Quiet (area : List ℕ) (e : Effect) : Type 0 where
+  ends : e .sw ≡ 0x9000
+  empty : e .says ++ part (e .from) (e .shows) area ≡ []
+
+-- a SELECT is quiet, so its status word is that of its checks; and these ask of the ledger what they ask of the card
+module _ (c : Card) (area : List ℕ) (live : Live (world c area)) (l : Ledger) (agree : Agree c l) (cmd random : List ℕ) (named : listed (framed cmd) ≡ Select) where
+  abbrev k : Command
+  k = framed cmd
+
+  abbrev x : Located
+  x = recordFound c area (framed cmd)
+
+  quiet : Quiet area (effectOf Select c (recordFound c area (framed cmd)) (framed cmd) random)
+  unfolding effectOf rule part
+  quiet =
+      split (λ (d : Deed). Quiet area (did c d)) (isZero (selected c k)) (λ e. record { ends = refl; empty = refl }) (λ e. record { ends = refl; empty = refl })
+
+  at-once-sw : atOnce c area cmd random .sw ≡ swOf Select c (recordFound c area (framed cmd)) (framed cmd)
+  unfolding atOnce settled outcome
+  at-once-sw = rw named (ruled-sw (swOf Select c x k) c (effectOf Select c x k random) (quiet .ends))
+
+  at-once-empty : atOnce c area cmd random .bytes ≡ []
+  unfolding atOnce settled outcome part
+  at-once-empty =
+      rw named
+      (split (λ (e : Effect). e .says ++ part (e .from) (e .shows) area ≡ []) (eqb (swOf Select c x k) 0x9000) (λ q. quiet .empty) (λ q. refl))
+
+  step-sw : step c area cmd random .sw ≡ swOf Select c (recordFound c area (framed cmd)) (framed cmd)
+  unfolding waitSw
+  step-sw =
+      step-by (λ (s : Stepped). s .sw ≡ swOf Select c x k) c area cmd random
+      (λ f. clash (isGetResponse (listed (framed cmd))) (f .by-name) (rw named refl))
+      (λ m f. ap (λ (d : List ℕ). waitSw (length d) (atOnce c area cmd random .sw)) at-once-empty ∙ at-once-sw)
+      (λ m f. at-once-sw)
+
+  pub select-told : step c area cmd random .sw ≡ selectSw l (framed cmd)
+  unfolding checks rule
+  select-told =
+      let good = sound-good c area (live .sound-card) in
+      let in-places = filed (c .directory) (good .directory) in
+      step-sw
+      ∙ ap (λ (t : List ℕ). first (frameSw k ∷ classSw k ∷ first t ∷ []))
+      (select-same c (in-places .few) (in-places .folders .few) (good .folder) (l .tree) (agree .tree-is) k)
+
 pub altered : Altered
 altered o area es h e place here =
     call-alters _ _ (after-live o area es h) (ledger o es) (follows o area es h) e place here
@@ -238,101 +295,173 @@ shown o area es h cmd random reply other place here alike =
 -- the next file, with all that CREATE FILE says of it
 record New (i : Ins) (c : Card) (area : List ℕ) (k : Command) (e : Effect) : Type 0 where
   by-create : i ≡ CreateFile
-  held : login device c .held ≡ true
+  held : opens c (creationRight c) ≡ true
   one-more : e .card .directory .count ≡ c .directory .count + 1
-  file-is : (f : File) × ((fileOf (e .card) (c .directory .count + 1) ≡ emptied f) × (labelOf f ≡ labelGiven k))
-  bytes-are : extent (e .card .directory) (c .directory .count + 1) (splice area (e .into) (e .stores)) ≡ zeros (sizeOf (labelGiven k))
+  directories-are : e .card .directory .number ≡ c .directory .number
+  file-is : (f : File) × ((fileOf (e .card) (c .directory .count + 1) ≡ emptied f) × (labelOf f ≡ labelGiven (c .session .folder) k))
+  bytes-are :
+      extent (e .card .directory) (c .directory .count + 1) (splice area (e .into) (e .stores)) ≡ zeros (sizeOf (labelGiven (c .session .folder) k))
 
-one-count : (d : Directory) (f : File) → created d f .count ≡ d .count + 1
-unfolding created
-one-count d f = refl
+-- the next directory
+record NewDirectory (i : Ins) (c : Card) (k : Command) (e : Effect) : Type 0 where
+  by-create : i ≡ CreateFile
+  in-root : c .session .folder ≡ 0
+  held : opens c (creationRight c) ≡ true
+  one-more : e .card .directory .number ≡ c .directory .number + 1
+  files-are : e .card .directory .count ≡ c .directory .count
+  tag-is : tagNo (e .card) (c .directory .number + 1) ≡ tagGiven k
 
--- an effect leaves as many files, or one more
+-- an effect leaves as many files and directories, or one more
 abbrev Counts : Ins → Card → List ℕ → Command → Effect → Type 0
-Counts i c area k e = (e .card .directory .count ≡ c .directory .count) ⊎ New i c area k e
+Counts i c area k e = NoneMade (world c area) (world (e .card) area) ⊎ (New i c area k e ⊎ NewDirectory i c k e)
 
 module _ (i : Ins) (c : Card) (area : List ℕ) (live : Live (world c area)) (k : Command) where
+  same-counts : (e : Effect) → e .card .directory .count ≡ c .directory .count → e .card .directory .number ≡ c .directory .number → Counts i c area k e
+  same-counts e p q = inl (record { files-are = p; directories-are = q })
+
   deed-counts : (d : Deed) → Fair i c area k d → Counts i c area k (did c d)
-  deed-counts (turns place) q = inl refl
-  deed-counts (shows place at n) q = inl refl
-  deed-counts (stores place at bytes) q = inl refl
-  deed-counts (appends place bytes) q = inl refl
+  unfolding created founded
+  deed-counts (turns place) q = same-counts _ refl refl
+  deed-counts (enters n) q = same-counts _ refl refl
+  deed-counts (shows place at n) q = same-counts _ refl refl
+  deed-counts (stores place at bytes) q = same-counts _ refl refl
+  deed-counts (appends place bytes) q = same-counts _ refl refl
   deed-counts (makes f) q =
       let sixteen = filed (c .directory) (sound-good c area (live .sound-card) .directory) .places in
       let served : creates (c .directory) f (length area) ≡ true = rw (live .size-is) (q .served) in
-      inr (record {
+      inr (inl (record {
         by-create = q .by-create;
         held = q .held;
-        one-more = one-count (c .directory) f;
+        one-more = refl;
+        directories-are = refl;
         file-is = (f, (new-file (c .directory) f area sixteen served, q .given));
         bytes-are = new-zero (c .directory) f area sixteen served ∙ ap zeros (label-size f ∙ ap sizeOf (q .given));
-      })
+      }))
+  deed-counts (founds x) q =
+      let four = filed (c .directory) (sound-good c area (live .sound-card) .directory) .folders .places in
+      let few = founding (c .directory) x (q .served) .few in
+      let at : c .directory .number + 1 - 1 ≡ c .directory .number = omega arith in
+      inr (inr (record {
+        by-create = q .by-create;
+        in-root = q .in-root;
+        held = q .held;
+        one-more = refl;
+        files-are = refl;
+        tag-is = rw (at, getD-set-same (c .directory .folders) (c .directory .number) x blankFolder (omega (arith, four, few))) (q .given);
+      }))
 
   touch-counts : (t : Touch) (random : List ℕ) → Counts i c area k (touched c t random)
-  touch-counts nothing random = inl refl
+  touch-counts nothing random = same-counts _ refl refl
   touch-counts (presents w value given) random =
-      compare-by (Counts i c area k) w c (same value given) (λ sw x e. inl (ap (λ (d : Directory). d .count) e))
-  touch-counts (changes w d) random = inl refl
-  touch-counts (reloads w d) random = inl refl
-  touch-counts (challenges n) random = inl refl
+      compare-by (Counts i c area k) w c (same value given)
+      (λ sw x e n. inl (record { files-are = ap (λ (d : Directory). d .count) e; directories-are = ap (λ (d : Directory). d .number) e }))
+  touch-counts (changes w d) random = same-counts _ refl refl
+  touch-counts (reloads w d) random = same-counts _ refl refl
+  touch-counts (challenges n) random = same-counts _ refl refl
 
 step-counts : (c : Card) (area cmd random : List ℕ) → Live (world c area)
     → Counts (listed (framed cmd)) c area (framed cmd) (outcome (listed (framed cmd)) c (recordFound c area (framed cmd)) (framed cmd) random)
 step-counts c area cmd random live =
     let i = listed (framed cmd) in
     by-rule (Counts i c area (framed cmd)) i c area (live .sound-card) (framed cmd) random (deed-counts i c area live (framed cmd))
-    (λ t q. touch-counts i c area live (framed cmd) t random) (λ sw. inl refl)
+    (λ t q. touch-counts i c area live (framed cmd) t random) (λ sw. inl (record { files-are = refl; directories-are = refl }))
+
+-- what CREATE FILE needs, in the ledger
+module _ (c : Card) (area : List ℕ) (live : Live (world c area)) (l : Ledger) (agree : Agree c l) (h : opens c (creationRight c) ≡ true) where
+  abbrev now : ℕ
+  now = c .session .folder
+
+  root-told : c .session .folder ≡ 0 → heldIn l device
+  unfolding creationRight
+  root-told z =
+      held-told c l agree device
+      (sym (device-asked (login device c .held) (login admin c .held) (login user c .held)) ∙ (rw (eq-eqb now 0 z) at h))
+
+  create-right : MayCreate (heldIn l) (l .tree .current) (tagIn (l .tree .tags) (l .tree .current) .create)
+  unfolding creationRight
+  create-right = record {
+    in-root = λ z. root-told (agree .tree-is .current-is ∙ z);
+    inside = λ o.
+        let g = sound-good c area (live .sound-card) in
+        let in-places = filed (c .directory) (g .directory) in
+        let m = agree .tree-is in
+        let some : now ≡ 0 → ⊥ = λ z. o (sym (m .current-is) ∙ z) in
+        let tag = right-is (c .directory) (in-places .few) (in-places .folders .few) now (l .tree) m now (omega (arith, some)) (g .folder) in
+        subst (λ n. Opens (heldIn l) (tagIn (l .tree .tags) n .create)) (m .current-is)
+        (subst (λ (x : Tag). Opens (heldIn l) (x .create)) tag (opens-told c l agree (tagNo c now .create) (rw (ne-eqb now 0 some) at h)));
+  }
 
 -- the step's card and area are those of its effect
+abbrev Grew : Ledger → World → World → List ℕ → Type 0
+Grew l w v cmd = NoneMade w v ⊎ (Made l w v cmd ⊎ MadeDirectory l w v cmd)
+
 at-once-makes : (l : Ledger) (c : Card) (area cmd random : List ℕ) → Live (world c area) → Agree c l
-    → (atOnce c area cmd random .card .directory .count ≡ c .directory .count)
-    ⊎ Made l (world c area) (world (atOnce c area cmd random .card) (atOnce c area cmd random .area)) cmd
+    → Grew l (world c area) (world (atOnce c area cmd random .card) (atOnce c area cmd random .area)) cmd
 unfolding atOnce settled
 at-once-makes l c area cmd random live agree =
-    ⊎-elim inl
-    (λ m. inr (record {
+    let i = listed (framed cmd) in
+    let e = outcome i c (recordFound c area (framed cmd)) (framed cmd) random in
+    let now = agree .tree-is .current-is in
+    ⊎-elim (λ (n : NoneMade (world c area) (world (e .card) area)). inl (record { files-are = n .files-are; directories-are = n .directories-are }))
+    (λ y. inr (⊎-elim
+    (λ (m : New i c area (framed cmd) e). inl (record {
       by-create = subst (λ i. NamedBy i (framed cmd .cla) (framed cmd .ins)) (m .by-create) (listed-by-bytes (framed cmd));
-      device-held = held-told c l agree device (m .held);
+      by-right = create-right c area live l agree (m .held);
       one-more = m .one-more;
-      label-is = ap labelOf (m .file-is .1 .0) ∙ m .file-is .1 .1;
-      bytes-are = bytes-are (atOnce c area cmd random .card) (atOnce c area cmd random .area) (c .directory .count + 1) ∙ m .bytes-are;
+      directories-are = m .directories-are;
+      label-is = ap labelOf (m .file-is .1 .0) ∙ m .file-is .1 .1 ∙ ap (λ n. labelGiven n (framed cmd)) now;
+      bytes-are =
+          bytes-are (atOnce c area cmd random .card) (atOnce c area cmd random .area) (c .directory .count + 1) ∙ m .bytes-are ∙ ap (λ n. zeros (sizeOf (labelGiven n (framed cmd)))) now;
       none-held = ap (λ (f : File). f .held) (m .file-is .1 .0);
       none-used = ap (λ (f : File). two (f .used1) (f .used2)) (m .file-is .1 .0);
     }))
+    (λ (m : NewDirectory i c (framed cmd) e). inr (record {
+      by-create = subst (λ i. NamedBy i (framed cmd .cla) (framed cmd .ins)) (m .by-create) (listed-by-bytes (framed cmd));
+      in-root = sym now ∙ m .in-root;
+      device-held = root-told c area live l agree (m .held) (m .in-root);
+      one-more = m .one-more;
+      files-are = m .files-are;
+      tag-is = m .tag-is;
+    })) y))
     (step-counts c area cmd random live)
 
 step-makes : (l : Ledger) (c : Card) (area cmd random : List ℕ) → Live (world c area) → Agree c l
-    → (step c area cmd random .card .directory .count ≡ c .directory .count)
-    ⊎ Made l (world c area) (world (step c area cmd random .card) (step c area cmd random .area)) cmd
+    → Grew l (world c area) (world (step c area cmd random .card) (step c area cmd random .area)) cmd
 step-makes l c area cmd random live agree =
     let made = at-once-makes l c area cmd random live agree in
-    step-by Counted c area cmd random
-    (λ f. fetched-by Counted c area (framed cmd) (λ q. inl refl) (λ sw. inl refl))
-    (λ m f. ⊎-elim inl (λ k. inr (record {
+    step-by (λ (s : Stepped). Grew l (world c area) (world (s .card) (s .area)) cmd) c area cmd random
+    (λ f. fetched-by (λ (s : Stepped). Grew l (world c area) (world (s .card) (s .area)) cmd) c area (framed cmd)
+    (λ q. inl (record { files-are = refl; directories-are = refl })) (λ sw. inl (record { files-are = refl; directories-are = refl })))
+    (λ m f. ⊎-elim (λ k. inl (record { files-are = k .files-are; directories-are = k .directories-are }))
+    (λ y. inr (⊎-elim (λ k. inl (record {
       by-create = k .by-create;
-      device-held = k .device-held;
+      by-right = k .by-right;
       one-more = k .one-more;
+      directories-are = k .directories-are;
       label-is = k .label-is;
       bytes-are = k .bytes-are;
       none-held = k .none-held;
       none-used = k .none-used;
-    })) made)
+    }))
+    (λ k. inr (record {
+      by-create = k .by-create;
+      in-root = k .in-root;
+      device-held = k .device-held;
+      one-more = k .one-more;
+      files-are = k .files-are;
+      tag-is = k .tag-is;
+    })) y)) made)
     (λ m f. made)
-  where
-    Counted : Stepped → Type 0
-    Counted s = (s .card .directory .count ≡ c .directory .count) ⊎ Made l (world c area) (world (s .card) (s .area)) cmd
 
 pub files-created : Created
 files-created o area es h e = go e (after-live o area es h) (follows o area es h)
   where
     go : (e : Event) → Live (after o area es) → Agree (after o area es .card) (ledger o es)
-        → (called (after o area es) e .card .directory .count ≡ after o area es .card .directory .count)
-        ⊎ Makes (ledger o es) (after o area es) (called (after o area es) e) e
+        → NoneMade (after o area es) (called (after o area es) e) ⊎ Makes (ledger o es) (after o area es) (called (after o area es) e) e
     go (sent cmd random reply) live agree =
         rw (command-is (after o area es .card) (after o area es .area) live cmd random reply)
-        (split
-        (λ (v : World). (v .card .directory .count ≡ after o area es .card .directory .count) ⊎ Made (ledger o es) (after o area es) v cmd)
-        (servable random reply)
+        (split (λ (v : World). Grew (ledger o es) (after o area es) v cmd) (servable random reply)
         (λ q. step-makes (ledger o es) (after o area es .card) (after o area es .area) cmd random live agree)
-        (λ q. inl refl))
-    go resets live agree = inl (ap (λ (x : Card). x .directory .count) (reset-is (after o area es .card) (after o area es .area) live))
+        (λ q. inl (record { files-are = refl; directories-are = refl })))
+    go resets live agree =
+        inl (rw (reset-is (after o area es .card) (after o area es .area) live) (record { files-are = refl; directories-are = refl }))

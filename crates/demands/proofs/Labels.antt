@@ -1,5 +1,5 @@
--- The ledger's labels and the card's directory: what CREATE FILE asks of either is the same.
-use Prim.Native.Nat.{ℕ, suc, _+_, _-_, _%_, _≤_, _<_}
+-- The ledger's tree and the card's files and directories: what CREATE FILE and SELECT ask of either is the same.
+use Prim.Native.Nat.{ℕ, suc, _+_, _%_, _≤_, _<_, min}
 use mathlib.Core.Bool.{Bool, true, false, cond, _&&_, _||_, not}
 use mathlib.Core.List.{List, [], _∷_}
 use mathlib.Core.Logic.{by-cases}
@@ -7,34 +7,36 @@ use mathlib.Core.Path.{_≡_, refl, sym, ap, _∙_}
 use native.Mathlib.Decide.{ℕ-discrete}
 use native.Mathlib.Omega.{arith}
 use lib.ListN.{length, set}
-use lib.Dec.{eqb, leb, ltb}
+use lib.Dec.{eqb, leb}
 use borrow.Author.Tests.{eq-eqb, ne-eqb}
 use Rattle.files.specs.declared.File.{File}
 use Rattle.files.specs.declared.Directory.{Directory}
-use Rattle.files.specs.Words.{isZero}
+use Rattle.files.specs.Words.{seek, isZero}
 use Rattle.files.specs.Types.{isVariable, sizedInBytes, hasRecords, count, recordLength, size, goodShape}
-use Rattle.files.specs.Rights.{goodRights}
-use Rattle.files.specs.Directory.{used, fileAt, startAt, ofSfi, seek, findSfi}
+use Rattle.files.specs.Rights.{goodRights, allHeld, allowed}
+use Rattle.files.specs.Directory.{used, fileAt, startAt, findFid, findSfi, folderAt, folder, findFolder}
 use Rattle.files.specs.Record.{appended}
-use Rattle.files.specs.Create.{goodContents, sfiUnused, room}
+use Rattle.files.specs.Create.{goodContents, apart, nameUnused, fidUnused, room, folderRoom}
 use Rattle.files.proofs.Checks.{clash, split}
 use Rattle.files.proofs.Extents.{count-bytes, count-records, length-records, size-bytes, size-records, file-set, file-other, used-is}
 use Rattle.rules.specs.declared.Card.{Card}
-use Rattle.rules.specs.Words.{unless}
-use Rattle.rules.specs.State.{device, login}
+use Rattle.rules.specs.State.{device, admin, user, logins}
 use Rattle.rules.specs.Frame.{Command, p}
-use Rattle.rules.specs.Create.{fileGiven, createChecks}
-use Rattle.demands.specs.Ledger.{Label, labelGiven, sfiOf, sizeOf, goodSize, goodRight, hasSfi, bytesTaken, makeChecks, labelIn}
-use Rattle.demands.specs.Held.{labelOf}
+use Rattle.rules.specs.Binary.{opens}
+use Rattle.rules.specs.Select.{selected, selectChecks, selectDeed}
+use Rattle.rules.specs.Effect.{Deed, turns, enters, shows, stores, appends, makes, founds}
+use Rattle.rules.specs.Create.{fileGiven, isFolder, folderGiven, goodFolderGiven, creationRight, createChecks, createDeed}
+use Rattle.demands.specs.Ledger.{Label, Tag, Tree, noTag, labelGiven, tagGiven, fidOf, sfiOf, fidOfTag, sizeOf, goodSize, goodRight, hasName, tagged, tagIn, bytesTaken, satisfied, mayCreate, asksDirectory, goodData, nameFree, roomFor, makeChecks, withMade, turnedTo, fidAsked, seekChecks, leadsTo}
+use Rattle.demands.specs.Held.{labelOf, tagOf}
+use Rattle.demands.proofs.Trees.{EachIs, each-same, each-at, satisfied-is}
 
--- each file made, the latest first, has its label
-abbrev pub EachIs : List File → List Label → Type 0
-EachIs files [] = Unit
-EachIs files (x ∷ earlier) = (labelOf (fileAt files (length earlier)) ≡ x) × EachIs files earlier
-
-pub record Matches (d : Directory) (made : List Label) : Type 0 where
-  pub count-is : d .count ≡ length made
-  pub each-is : EachIs (d .files) made
+-- each file and each directory made, the latest first, is what the tree says; and the current directory is the tree's
+pub record Matches (d : Directory) (current : ℕ) (t : Tree) : Type 0 where
+  pub count-is : d .count ≡ length (t .labels)
+  pub each-label : EachIs Label (λ i. labelOf (fileAt (d .files) i)) (t .labels)
+  pub number-is : d .number ≡ length (t .tags)
+  pub each-tag : EachIs Tag (λ i. tagOf (folderAt (d .folders) i)) (t .tags)
+  pub current-is : current ≡ t .current
 
 -- what a label tells of a file
 module _ (f : File) where
@@ -66,51 +68,50 @@ module _ (f : File) where
   unfolding goodContents goodRights
   label-contents = ap (λ b. b && (goodRight (f .read) && goodRight (f .write))) label-shape
 
--- of the files made so far
-module _ (files : List File) where
-  label-unused : (n : ℕ) (made : List Label) → EachIs files made → isZero (seek (ofSfi n) files (length made)) ≡ not (hasSfi n made)
-  unfolding seek hasSfi
-  label-unused n [] h = refl
-  label-unused n (x ∷ earlier) h =
-      go (ofSfi n (fileAt files (length earlier))) (label-unused n earlier (h .1))
-      ∙ ap (λ (y : Label). not (eqb (sfiOf y) n || hasSfi n earlier)) (h .0)
-    where
-      go : (b : Bool) → isZero (seek (ofSfi n) files (length earlier)) ≡ not (hasSfi n earlier)
-          → isZero (cond b (suc (length earlier)) (seek (ofSfi n) files (length earlier))) ≡ not (b || hasSfi n earlier)
-      go true e = ne-eqb (suc (length earlier)) 0 (λ q. omega (arith, q))
-      go false e = e
+-- of the files made so far: a search among them, and the bytes that they take
+label-unused : (name : Label → ℕ) (has : ℕ → Label) (directory n : ℕ) (made : List Label) → EachIs Label has made
+    → isZero (seek (λ i. eqb (has i .within) directory && eqb (name (has i)) n) (length made)) ≡ not (hasName name directory n made)
+unfolding seek hasName
+label-unused name has directory n [] h = refl
+label-unused name has directory n (x ∷ earlier) h =
+    go (eqb (has (length earlier) .within) directory && eqb (name (has (length earlier))) n) (label-unused name has directory n earlier (h .1))
+    ∙ ap (λ (y : Label). not ((eqb (y .within) directory && eqb (name y) n) || hasName name directory n earlier)) (h .0)
+  where
+    go : (b : Bool) → isZero (seek (λ i. eqb (has i .within) directory && eqb (name (has i)) n) (length earlier)) ≡ not (hasName name directory n earlier)
+        → isZero (cond b (suc (length earlier)) (seek (λ i. eqb (has i .within) directory && eqb (name (has i)) n) (length earlier)))
+        ≡ not (b || hasName name directory n earlier)
+    go true e = ne-eqb (suc (length earlier)) 0 (λ q. omega arith)
+    go false e = e
 
-  label-taken : (made : List Label) → EachIs files made → startAt files (length made) ≡ bytesTaken made
-  unfolding startAt bytesTaken
-  label-taken [] h = refl
-  label-taken (x ∷ earlier) h =
-      ap (λ n. n + size (fileAt files (length earlier))) (label-taken earlier (h .1))
-      ∙ ap (λ n. bytesTaken earlier + n) (label-size (fileAt files (length earlier)) ∙ ap sizeOf (h .0))
+label-taken : (files : List File) (made : List Label) → EachIs Label (λ i. labelOf (fileAt files i)) made → startAt files (length made) ≡ bytesTaken made
+unfolding startAt bytesTaken
+label-taken files [] h = refl
+label-taken files (x ∷ earlier) h =
+    ap (λ n. n + size (fileAt files (length earlier))) (label-taken files earlier (h .1))
+    ∙ ap (λ n. bytesTaken earlier + n) (label-size (fileAt files (length earlier)) ∙ ap sizeOf (h .0))
 
-  -- a file put past them, or one with the same label
-  pub each-past : (made : List Label) (j : ℕ) (f : File) → length made ≤ j → EachIs files made → EachIs (set files j f) made
-  each-past [] j f l h = tt
-  each-past (x ∷ earlier) j f l h =
-      (ap labelOf (file-other files j f (length earlier) (λ e. omega (arith, e, l))) ∙ h .0, each-past earlier j f (omega (arith, l)) (h .1))
+-- of the directories made so far
+tag-found : (has : ℕ → Tag) (n : ℕ) (made : List Tag) → EachIs Tag has made → seek (λ i. eqb (fidOfTag (has i)) n) (length made) ≡ tagged n made
+unfolding seek tagged
+tag-found has n [] h = refl
+tag-found has n (x ∷ earlier) h =
+    ap (λ (y : Tag). cond (eqb (fidOfTag y) n) (suc (length earlier)) (seek (λ i. eqb (fidOfTag (has i)) n) (length earlier))) (h .0)
+    ∙ ap (λ m. cond (eqb (fidOfTag x) n) (suc (length earlier)) m) (tag-found has n earlier (h .1))
 
-  pub each-again : (made : List Label) (j : ℕ) (f : File) → j < length files → labelOf f ≡ labelOf (fileAt files j) → EachIs files made
-      → EachIs (set files j f) made
-  each-again [] j f l e h = tt
-  each-again (x ∷ earlier) j f l e h = (
-    by-cases (ℕ-discrete (length earlier) j)
-        (λ q. ap (λ i. labelOf (fileAt (set files j f) i)) q ∙ ap labelOf (file-set files j f l) ∙ e ∙ ap (λ i. labelOf (fileAt files i)) (sym q) ∙ h .0)
-        (λ o. ap labelOf (file-other files j f (length earlier) o) ∙ h .0),
-    each-again earlier j f l e (h .1),
-  )
+-- a file put past the last, or one with the same label
+module _ (files : List File) (made : List Label) (j : ℕ) (f : File) where
+  pub each-past : length made ≤ j → EachIs Label (λ i. labelOf (fileAt files i)) made → EachIs Label (λ i. labelOf (fileAt (set files j f) i)) made
+  each-past l h =
+      each-same Label (λ i. labelOf (fileAt files i)) (λ i. labelOf (fileAt (set files j f) i)) made
+      (λ i m. ap labelOf (file-other files j f i (λ e. omega arith))) h
 
-  -- the label in a place
-  pub each-at : (made : List Label) (n : ℕ) → 1 ≤ n → n ≤ length made → EachIs files made → labelOf (fileAt files (n - 1)) ≡ labelIn made n
-  unfolding labelIn
-  each-at [] n l m h = absurd (omega (arith, l, m))
-  each-at (x ∷ earlier) n l m h =
-      by-cases (ℕ-discrete n (suc (length earlier)))
-      (λ q. let e : n - 1 ≡ length earlier = omega (arith, q) in rw (eq-eqb n (suc (length earlier)) q, e) (h .0))
-      (λ o. rw (ne-eqb n (suc (length earlier)) o) (each-at earlier n l (omega (arith, m, o)) (h .1)))
+  pub each-again : j < length files → labelOf f ≡ labelOf (fileAt files j) → EachIs Label (λ i. labelOf (fileAt files i)) made
+      → EachIs Label (λ i. labelOf (fileAt (set files j f) i)) made
+  each-again l e h =
+      each-same Label (λ i. labelOf (fileAt files i)) (λ i. labelOf (fileAt (set files j f) i)) made
+      (λ i m. by-cases (ℕ-discrete i j)
+      (λ q. ap (λ z. labelOf (fileAt (set files j f) z)) q ∙ ap labelOf (file-set files j f l) ∙ e ∙ ap (λ z. labelOf (fileAt files z)) (sym q))
+      (λ o. ap labelOf (file-other files j f i o))) h
 
 -- an append leaves the label
 pub appended-label : (f : File) (n : ℕ) → labelOf (appended f n) ≡ labelOf f
@@ -118,45 +119,130 @@ unfolding appended
 appended-label f n = split (λ (g : File). labelOf g ≡ labelOf f) (isVariable f) (λ e. refl) (λ e. refl)
 
 -- what CREATE FILE gives
-pub given-label : (k : Command) → labelOf (fileGiven k) ≡ labelGiven k
+pub given-label : (current : ℕ) (k : Command) → labelOf (fileGiven current k) ≡ labelGiven current k
 unfolding fileGiven
-given-label k = refl
+given-label current k = refl
 
-given-sfi : (k : Command) → p k % 32 ≡ sfiOf (labelGiven k)
-given-sfi k = refl
+pub given-tag : (k : Command) → tagOf (folderGiven k) ≡ tagGiven k
+unfolding folderGiven
+given-tag k = refl
 
--- and what it asks
-module _ (c : Card) (few : c .directory .count ≤ 16) (made : List Label) (m : Matches (c .directory) made) (k : Command) where
+given-sfi : (current : ℕ) (k : Command) → p k % 32 ≡ sfiOf (labelGiven current k)
+given-sfi current k = refl
+
+given-kind : (current : ℕ) (k : Command) → isFolder k ≡ asksDirectory (labelGiven current k)
+given-kind current k = refl
+
+-- what the card finds the tree finds
+module _ (d : Directory) (few : d .count ≤ 16) (less : d .number ≤ 4) (current : ℕ) (t : Tree) (m : Matches d current t) where
+  used-made : used d ≡ length (t .labels)
+  used-made = used-is d few ∙ m .count-is
+
+  found-fid : (directory n : ℕ) → isZero (findFid d directory n) ≡ not (hasName fidOf directory n (t .labels))
+  unfolding findFid
+  found-fid directory n = rw used-made (label-unused fidOf (λ i. labelOf (fileAt (d .files) i)) directory n (t .labels) (m .each-label))
+
+  found-sfi : (directory n : ℕ) → isZero (findSfi d directory n) ≡ not (hasName sfiOf directory n (t .labels))
+  unfolding findSfi
+  found-sfi directory n = rw used-made (label-unused sfiOf (λ i. labelOf (fileAt (d .files) i)) directory n (t .labels) (m .each-label))
+
+  found-folder : (n : ℕ) → findFolder d n ≡ tagged n (t .tags)
+  unfolding findFolder
+  found-folder n =
+      let e : min (d .number) 4 ≡ length (t .tags) = omega (arith, m .number-is, less) in
+      rw e (tag-found (λ i. tagOf (folderAt (d .folders) i)) n (t .tags) (m .each-tag))
+
+  pub right-is : (n : ℕ) → 1 ≤ n → n ≤ d .number → tagOf (folder d n) ≡ tagIn (t .tags) n
+  right-is n some low = each-at Tag noTag (λ i. tagOf (folderAt (d .folders) i)) (t .tags) n some (omega (arith, m .number-is, low)) (m .each-tag)
+
+-- the tree that a deed leaves
+abbrev pub treeBy : Deed → Tree → Tree
+treeBy (turns place) t = t
+treeBy (enters n) t = turnedTo t n
+treeBy (shows place at n) t = t
+treeBy (stores place at d) t = t
+treeBy (appends place d) t = t
+treeBy (makes f) t = record { labels = labelOf f ∷ t .labels; tags = t .tags; current = t .current }
+treeBy (founds x) t = record { labels = t .labels; tags = tagOf x ∷ t .tags; current = t .current }
+
+-- the device right, as a rights byte
+pub device-asked : (x y z : Bool) → allowed x y z 0x01 ≡ x
+unfolding allowed allHeld
+device-asked x y z = refl
+
+not-not : (b : Bool) → not (not b) ≡ b
+not-not true = refl
+not-not false = refl
+
+-- what CREATE FILE and SELECT ask of the card they ask of the tree
+module _ (c : Card) (few : c .directory .count ≤ 16) (less : c .directory .number ≤ 4) (low : c .session .folder ≤ c .directory .number)
+    (t : Tree) (m : Matches (c .directory) (c .session .folder) t) (k : Command) where
   abbrev d : Directory
   d = c .directory
 
+  abbrev now : ℕ
+  now = c .session .folder
+
+  pub right-same : opens c (creationRight c) ≡ mayCreate (logins c) t
+  unfolding creationRight
+  right-same =
+      by-cases (ℕ-discrete now 0)
+      (λ e. rw (← m .current-is, eq-eqb now 0 e) (device-asked (logins c device .held) (logins c admin .held) (logins c user .held)))
+      (λ o. rw (← m .current-is, ne-eqb now 0 o)
+      (sym (satisfied-is (logins c) (folder d now .right))
+      ∙ ap (λ (x : Tag). satisfied (logins c) (x .create)) (right-is d few less now t m now (omega arith) low)))
+
   abbrev x : Label
-  x = labelGiven k
+  x = labelGiven (c .session .folder) k
 
-  used-made : used d ≡ length made
-  used-made = used-is d few ∙ m .count-is
+  folder-data : goodFolderGiven k ≡ (eqb (x .size1) 0 && (eqb (x .size2) 0 && (eqb (x .write) 0 && goodRight (x .read))))
+  unfolding goodFolderGiven goodRights
+  folder-data = refl
 
-  contents-same : goodContents (fileGiven k) ≡ (goodSize x && (goodRight (x .read) && goodRight (x .write)))
-  contents-same =
-      label-contents (fileGiven k) ∙ ap (λ (y : Label). goodSize y && (goodRight (y .read) && goodRight (y .write))) (given-label k)
+  file-data : goodContents (fileGiven now k) ≡ (goodSize x && (goodRight (x .read) && goodRight (x .write)))
+  unfolding fileGiven
+  file-data = label-contents (fileGiven now k)
 
-  unused-same : sfiUnused d (p k % 32) ≡ not (hasSfi (sfiOf x) made)
-  unfolding sfiUnused findSfi
-  unused-same = rw (used-made, given-sfi k) (label-unused (d .files) (sfiOf x) made (m .each-is))
+  data-same : cond (isFolder k) (goodFolderGiven k) (goodContents (fileGiven now k)) ≡ goodData x
+  data-same = rw (given-kind now k, folder-data, file-data)
 
-  room-same : room d (fileGiven k) ≡ (ltb (length made) 16 && leb (bytesTaken made + sizeOf x) 4096)
+  name-same : cond (isFolder k) (fidUnused d (p k)) (nameUnused d (fileGiven now k)) ≡ nameFree t x
+  unfolding fidUnused nameUnused apart fileGiven
+  name-same = rw (found-folder d few less now t m (p k), found-fid d few less now t m 0 (p k), found-sfi d few less now t m now (p k % 32))
+
+  room-same : cond (isFolder k) (folderRoom d) (room d (fileGiven now k)) ≡ roomFor t x
   unfolding room
   room-same =
-      let e : size (fileGiven k) ≡ sizeOf x = label-size (fileGiven k) ∙ ap sizeOf (given-label k) in
-      rw (used-made, m .count-is, label-taken (d .files) made (m .each-is), e)
+      let e : size (fileGiven now k) ≡ sizeOf x = label-size (fileGiven now k) ∙ ap sizeOf (given-label now k) in
+      rw (given-kind now k, used-made d few less now t m, m .number-is, m .count-is, label-taken (d .files) (t .labels) (m .each-label), e)
 
-  pub create-same : createChecks c k ≡ makeChecks (login device c .held) made k
+  pub create-same : createChecks c k ≡ makeChecks (logins c) t k
   unfolding createChecks makeChecks
-  create-same =
-      let asked : ℕ → Bool → Bool → Bool → List ℕ = λ sfi a b r.
-      unless (leb 1 sfi && leb sfi 30) 0x6A86 ∷ unless (eqb (k .case) 3 && eqb (length (k .given)) 5) 0x6700 ∷ unless (login device c .held) 0x6982
-      ∷ unless a 0x6A80 ∷ unless b 0x6986 ∷ unless r 0x6A84 ∷ [] in
-      ap (λ n. asked n (goodContents (fileGiven k)) (sfiUnused d (p k % 32)) (room d (fileGiven k))) (given-sfi k)
-      ∙ ap (λ b. asked (sfiOf x) b (sfiUnused d (p k % 32)) (room d (fileGiven k))) contents-same
-      ∙ ap (λ b. asked (sfiOf x) (goodSize x && (goodRight (x .read) && goodRight (x .write))) b (room d (fileGiven k))) unused-same
-      ∙ ap (λ b. asked (sfiOf x) (goodSize x && (goodRight (x .read) && goodRight (x .write))) (not (hasSfi (sfiOf x) made)) b) room-same
+  create-same = rw (right-same, data-same, name-same, room-same, given-sfi now k, given-kind now k, m .current-is)
+
+  -- a SELECT
+  here-same : isZero (selected c k) ≡ not (hasName fidOf (t .current) (fidAsked k) (t .labels))
+  here-same = rw (← m .current-is) (found-fid d few less now t m now (fidAsked k))
+
+  pub select-same : selectChecks c k ≡ seekChecks t k
+  unfolding selectChecks seekChecks
+  select-same = rw (here-same, not-not (hasName fidOf (t .current) (fidAsked k) (t .labels)), found-folder d few less now t m (fidAsked k))
+
+  pub select-leads : treeBy (selectDeed c k) t ≡ turnedTo t (leadsTo t k)
+  unfolding leadsTo
+  select-leads = rw (here-same, found-folder d few less now t m (fidAsked k)) (go (hasName fidOf (t .current) (fidAsked k) (t .labels)))
+    where
+      go : (b : Bool)
+          → treeBy (cond (not b) (enters (tagged (fidAsked k) (t .tags))) (turns (selected c k))) t ≡ turnedTo t (cond b (t .current) (tagged (fidAsked k) (t .tags)))
+      go true = refl
+      go false = refl
+
+  -- and what CREATE FILE leaves
+  pub create-leaves : treeBy (createDeed c k) t ≡ withMade t k
+  create-leaves = rw (m .current-is, given-kind (t .current) k) (go (asksDirectory (labelGiven (t .current) k)))
+    where
+      go : (b : Bool) → treeBy (cond b (founds (folderGiven k)) (makes (fileGiven (t .current) k))) t
+          ≡ cond b (record { labels = t .labels; tags = tagGiven k ∷ t .tags; current = t .current })
+          (record { labels = labelGiven (t .current) k ∷ t .labels; tags = t .tags; current = t .current })
+      go true = ap (λ (x : Tag). record { labels = t .labels; tags = x ∷ t .tags; current = t .current }) (given-tag k)
+      go false = ap (λ (x : Label). record { labels = x ∷ t .labels; tags = t .tags; current = t .current }) (given-label (t .current) k)

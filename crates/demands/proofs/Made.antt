@@ -1,14 +1,16 @@
--- The labels of the card's files after a command are those that the ledger enters.
+-- The card's files and directories after a command, and its current directory, are those that the ledger enters.
 use Prim.Native.Nat.{ℕ, _+_, _-_, _<_}
 use mathlib.Core.Bool.{Bool, true, false, cond}
 use mathlib.Core.List.{List}
 use mathlib.Core.Path.{_≡_, refl, ap, _∙_}
 use native.Mathlib.Omega.{arith}
-use lib.ListN.{length}
+use lib.ListN.{length, set}
+use lib.Seq.{getD-set-same, getD-set-other}
 use Rattle.files.specs.declared.Directory.{Directory}
-use Rattle.files.specs.State.{emptied}
+use Rattle.files.specs.State.{emptied, blankFolder}
+use Rattle.files.specs.Directory.{folderAt}
 use Rattle.files.specs.Record.{appended}
-use Rattle.files.specs.Create.{created}
+use Rattle.files.specs.Create.{created, founded}
 use Rattle.files.proofs.Checks.{split}
 use Rattle.files.proofs.Extents.{file-set}
 use Rattle.files.proofs.Kept.{filed}
@@ -19,16 +21,17 @@ use Rattle.rules.specs.Words.{same}
 use Rattle.rules.specs.State.{logins, challenge}
 use Rattle.rules.specs.Sound.{sound}
 use Rattle.rules.specs.Frame.{Command}
-use Rattle.rules.specs.Effect.{Deed, turns, shows, stores, appends, makes, Touch, nothing, presents, changes, reloads, challenges, Effect}
+use Rattle.rules.specs.Effect.{Deed, turns, enters, shows, stores, appends, makes, founds, Touch, nothing, presents, changes, reloads, challenges, Effect}
 use Rattle.rules.specs.Binary.{fileOf}
 use Rattle.rules.specs.Record.{recordFound}
 use Rattle.rules.specs.List.{role, Rule, ofFiles, ofCredentials, rule}
 use Rattle.rules.specs.Step.{did, touched, checks, effectOf, outcome}
 use Rattle.rules.proofs.Good.{sound-good}
-use Rattle.demands.specs.Ledger.{Label, passes, labelled}
-use Rattle.demands.specs.Held.{labelOf}
-use Rattle.demands.proofs.Labels.{Matches, each-past, each-again, appended-label}
-use Rattle.demands.proofs.Rows.{ruledBy, Fair, labelsBy, all-passed, Row, row}
+use Rattle.demands.specs.Ledger.{Tag, Tree, passes, grown}
+use Rattle.demands.specs.Held.{labelOf, tagOf}
+use Rattle.demands.proofs.Trees.{all-passed, each-same}
+use Rattle.demands.proofs.Labels.{Matches, treeBy, each-past, each-again, appended-label}
+use Rattle.demands.proofs.Rows.{ruledBy, Fair, Row, row}
 use Rattle.demands.proofs.Files.{compare-by}
 
 -- where the checks pass, of which the one side is told, and where not
@@ -36,53 +39,81 @@ alike-told : {A B : Type 0} (R : A → B → Type 0) (b : Bool) {e n : A} {x y :
 alike-told R true p q = p refl
 alike-told R false p q = q
 
-module _ (i : Ins) (c : Card) (area : List ℕ) (h : sound c area ≡ true) (k : Command) (random : List ℕ) (made : List Label) (m : Matches (c .directory) made) where
+-- what a card has of files and directories, and the tree
+abbrev pub Same : Card → Tree → Type 0
+Same c w = Matches (c .directory) (c .session .folder) w
+
+module _ (i : Ins) (c : Card) (area : List ℕ) (h : sound c area ≡ true) (k : Command) (random : List ℕ) (w : Tree) (m : Matches (c .directory) (c .session .folder) w) where
   abbrev d : Directory
   d = c .directory
 
-  deed-labels : (x : Deed) → Fair i c area k x → Matches (did c x .card .directory) (labelsBy x made)
-  unfolding created
-  deed-labels (turns place) q = m
-  deed-labels (shows place at n) q = m
-  deed-labels (stores place at bytes) q = m
-  deed-labels (appends place bytes) q =
-      let w = filed d (sound-good c area h .directory) in
+  deed-tree : (x : Deed) → Fair i c area k x → Same (did c x .card) (treeBy x w)
+  unfolding created founded
+  deed-tree (turns place) q = m
+  deed-tree (enters n) q =
+      record { count-is = m .count-is; each-label = m .each-label; number-is = m .number-is; each-tag = m .each-tag; current-is = refl }
+  deed-tree (shows place at n) q = m
+  deed-tree (stores place at bytes) q = m
+  deed-tree (appends place bytes) q =
+      let g = filed d (sound-good c area h .directory) in
       let f = appended (fileOf c place) (length bytes) in
-      let in-list : place - 1 < length (d .files) = omega (arith, w .places, w .few, q .fair .entitled .some, q .fair .entitled .low) in
+      let in-list : place - 1 < length (d .files) = omega (arith, g .places, g .few, q .fair .entitled .some, q .fair .entitled .low) in
       record {
         count-is = m .count-is;
-        each-is = each-again (d .files) made (place - 1) f in-list (appended-label (fileOf c place) (length bytes)) (m .each-is);
+        each-label = each-again (d .files) (w .labels) (place - 1) f in-list (appended-label (fileOf c place) (length bytes)) (m .each-label);
+        number-is = m .number-is;
+        each-tag = m .each-tag;
+        current-is = m .current-is;
       }
-  deed-labels (makes f) q =
-      let w = filed d (sound-good c area h .directory) in
+  deed-tree (makes f) q =
+      let g = filed d (sound-good c area h .directory) in
       let few : d .count < 16 = making.makes d f 4096 (q .served) .few in
-      let in-list : d .count < length (d .files) = omega (arith, w .places, few) in
+      let in-list : d .count < length (d .files) = omega (arith, g .places, few) in
       record {
         count-is = ap (λ n. n + 1) (m .count-is) ∙ omega arith;
-        each-is = (
+        each-label = (
           rw (← m .count-is) (ap labelOf (file-set (d .files) (d .count) (emptied f) in-list)),
-          each-past (d .files) made (d .count) (emptied f) (omega (arith, m .count-is)) (m .each-is),
+          each-past (d .files) (w .labels) (d .count) (emptied f) (omega (arith, m .count-is)) (m .each-label),
         );
+        number-is = m .number-is;
+        each-tag = m .each-tag;
+        current-is = m .current-is;
+      }
+  deed-tree (founds x) q =
+      let g = filed d (sound-good c area h .directory) in
+      let few : d .number < 4 = making.founding d x (q .served) .few in
+      let in-list : d .number < length (d .folders) = omega (arith, g .folders .places, few) in
+      let has : ℕ → Tag = λ i. tagOf (folderAt (d .folders) i) in
+      record {
+        count-is = m .count-is;
+        each-label = m .each-label;
+        number-is = ap (λ n. n + 1) (m .number-is) ∙ omega arith;
+        each-tag = (
+          rw (← m .number-is) (ap tagOf (getD-set-same (d .folders) (d .number) x blankFolder in-list)),
+          each-same Tag has (λ i. tagOf (folderAt (set (d .folders) (d .number) x) i)) (w .tags)
+              (λ i l. ap tagOf (getD-set-other (d .folders) (d .number) i x blankFolder (λ e. omega (arith, m .number-is, l, e)))) (m .each-tag),
+        );
+        current-is = m .current-is;
       }
 
-  touch-labels : (t : Touch) → Matches (touched c t random .card .directory) made
-  touch-labels nothing = m
-  touch-labels (presents w value given) =
-      compare-by (λ (e : Effect). Matches (e .card .directory) made) w c (same value given) (λ sw x e. rw e m)
-  touch-labels (changes w bytes) = m
-  touch-labels (reloads w bytes) = m
-  touch-labels (challenges n) = m
+  touch-tree : (t : Touch) → Same (touched c t random .card) w
+  touch-tree nothing = m
+  touch-tree (presents v value given) =
+      compare-by (λ (e : Effect). Same (e .card) w) v c (same value given) (λ sw x e n. rw (e, n) m)
+  touch-tree (changes v bytes) = m
+  touch-tree (reloads v bytes) = m
+  touch-tree (challenges n) = m
 
-  pub outcome-labels : Matches (outcome i c (recordFound c area k) k random .card .directory) (labelled (role i) (logins c) made k)
+  pub outcome-tree : Same (outcome i c (recordFound c area k) k random .card) (grown (role i) (logins c) w k)
   unfolding outcome effectOf checks
-  outcome-labels = go (rule i) (row i)
+  outcome-tree = go (rule i) (row i)
     where
-      go : (r : Rule) → Row i r → Matches (ruledBy r c (recordFound c area k) k random .card .directory) (labelled (role i) (logins c) made k)
+      go : (r : Rule) → Row i r → Same (ruledBy r c (recordFound c area k) k random .card) (grown (role i) (logins c) w k)
       go (ofFiles t x) q =
-          rw (q .labels-are c area h made m k)
-          (alike-told (λ (e : Effect) (y : List Label). Matches (e .card .directory) y) (passes (t c (recordFound c area k) k) k)
-          (λ e. deed-labels (x c (recordFound c area k) k) (q .fair c area h k (all-passed (t c (recordFound c area k) k) k e))) m)
+          rw (q .tree-is c area h w m k)
+          (alike-told (λ (e : Effect) (y : Tree). Same (e .card) y) (passes (t c (recordFound c area k) k) k)
+          (λ e. deed-tree (x c (recordFound c area k) k) (q .fair c area h k (all-passed (t c (recordFound c area k) k) k e))) m)
       go (ofCredentials t x) q =
-          rw (q .labels-are (logins c) made k)
-          (split (λ (e : Effect). Matches (e .card .directory) made) (passes (t (logins c) (challenge c) k) k)
-          (λ e. touch-labels (x (logins c) (challenge c) k)) (λ e. m))
+          rw (q .tree-is (logins c) w k)
+          (split (λ (e : Effect). Same (e .card) w) (passes (t (logins c) (challenge c) k) k)
+          (λ e. touch-tree (x (logins c) (challenge c) k)) (λ e. m))

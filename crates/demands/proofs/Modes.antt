@@ -11,12 +11,12 @@ use Rattle.rules.specs.declared.Ins.the-variants.{Select, ReadBinary, UpdateBin
 use Rattle.rules.specs.Words.{first, same}
 use Rattle.rules.specs.State.{logins, challenge}
 use Rattle.rules.specs.Frame.{Command, framed, frameSw, classSw}
-use Rattle.rules.specs.Effect.{Deed, turns, shows, stores, appends, makes, Touch, nothing, presents, changes, reloads, challenges, Effect, effect, answers}
+use Rattle.rules.specs.Effect.{Deed, turns, enters, shows, stores, appends, makes, founds, Touch, nothing, presents, changes, reloads, challenges, Effect, effect, answers}
 use Rattle.rules.specs.Select.{selectChecks}
 use Rattle.rules.specs.Binary.{target, readBinaryChecks, updateBinaryChecks}
 use Rattle.rules.specs.Record.{recordFound, readRecordChecks, updateRecordChecks, appendChecks}
 use Rattle.rules.specs.Pins.{comparedAt}
-use Rattle.rules.specs.Create.{createChecks}
+use Rattle.rules.specs.Create.{creationRight, createChecks}
 use Rattle.rules.specs.List.{listed, Rule, ofFiles, ofCredentials, rule}
 use Rattle.rules.specs.Step.{checksOf, did, touched, effectBy, checks, effectOf, ruled, outcome, Stepped, settled, atOnce}
 use Rattle.demands.specs.Response.{inMode0}
@@ -34,7 +34,7 @@ Blind (ofFiles t d) = (c : Card) (l : Located) (k : Command) → (t (inMode0 c) 
 Blind (ofCredentials t d) = Unit
 
 blind : (i : Ins) → Blind (rule i)
-unfolding rule selectChecks readBinaryChecks updateBinaryChecks readRecordChecks updateRecordChecks appendChecks createChecks target
+unfolding rule selectChecks readBinaryChecks updateBinaryChecks readRecordChecks updateRecordChecks appendChecks createChecks creationRight target
 blind Select = λ c l k. (refl, refl)
 blind ReadBinary = λ c l k. (refl, refl)
 blind UpdateBinary = λ c l k. (refl, refl)
@@ -53,10 +53,12 @@ blind Unlisted = tt
 module _ (c : Card) where
   did-blind : (d : Deed) → did (inMode0 c) d ≡ blindEffect (did c d)
   did-blind (turns place) = refl
+  did-blind (enters n) = refl
   did-blind (shows place at n) = refl
   did-blind (stores place at bytes) = refl
   did-blind (appends place bytes) = refl
   did-blind (makes f) = refl
+  did-blind (founds x) = refl
 
   compared-blind : (n : ℕ) (b : Bool) → comparedAt n (inMode0 c) b ≡ blindEffect (comparedAt n c b)
   unfolding comparedAt

@@ -1,5 +1,5 @@
 -- The file that a command names, and what a rights byte asks, as the rules have them.
-use Prim.Native.Nat.{ℕ, _-_, _/_, _%_, _≤_, _<_}
+use Prim.Native.Nat.{ℕ, _-_, _/_, _%_, _≤_, _<_, min}
 use mathlib.Core.Bool.{Bool, true, cond, _||_, not}
 use mathlib.Core.List.{List, [], _∷_}
 use mathlib.Core.Logic.{by-cases}
@@ -8,17 +8,17 @@ use native.Mathlib.Decide.{decLt, ℕ-discrete}
 use native.Mathlib.Omega.{arith}
 use lib.Dec.{eqb, leb}
 use borrow.Author.Tests.{eqb-true, eqb-false, eq-eqb, ne-eqb, not-true, leb-true}
-use Rattle.files.specs.declared.File.{File}
 use Rattle.files.specs.declared.Directory.{Directory}
-use Rattle.files.specs.Words.{isZero}
+use Rattle.files.specs.Words.{isZero, seek}
 use Rattle.files.specs.Rights.{never, adminBit, userBit, deviceBit, anyBit, asks, allHeld, grants, anyHeld, allowed}
-use Rattle.files.specs.Directory.{sfi, goodSfi, used, fileAt, file, seek, ofSfi, ofFid, findSfi, findFid}
+use Rattle.files.specs.Directory.{fid, sfi, goodSfi, used, fileAt, ofSfi, ofFid, here, findSfi, findFid, folderAt, folderHere, findFolder}
+use Rattle.files.specs.Directory as files
 use Rattle.files.specs.Record.{soundHeld, soundUsed}
 use Rattle.files.specs.Create.{goodContents}
 use Rattle.files.specs.Sound.{soundFile, soundDirectory}
-use Rattle.files.proofs.Checks.{clash, each, all, both}
-use Rattle.files.proofs.Extents.{seek-low}
-use Rattle.files.proofs.Sought.{seek-found, seek-absent}
+use Rattle.files.proofs.Checks.{clash, each, all, both, join}
+use Rattle.files.proofs.Sought.{seek-low, seek-found, seek-absent, fid-found, sfi-found, folder-found, folder-low}
+use Rattle.files.proofs.Folders.{folder-alone}
 use Rattle.files.proofs.Kept.{filed}
 use Rattle.rules.specs.declared.Card.{Card}
 use Rattle.rules.specs.State.{Which, device, admin, user, numberOf, login}
@@ -26,62 +26,102 @@ use Rattle.rules.specs.Sound.{sound}
 use Rattle.rules.specs.Binary.{target, opens}
 use Rattle.rules.proofs.Checks.{one-of, either}
 use Rattle.rules.proofs.Good.{Good, sound-good}
-use Rattle.rules.proofs.Targets.{used-count, place-sound, target-low}
-use Rattle.demands.specs.Held.{fileNo, IsFile, Named, rightNo, Opens, labelNo, OneHeld, bitOf, heldOn}
-use Rattle.demands.specs.Ledger.{sfiOf, fidOf}
+use Rattle.rules.proofs.Targets.{used-count, place-sound, fid-low, sfi-low, lies-there, target-low, target-lies}
+use Rattle.demands.specs.Held.{fileNo, IsFile, labelNo, IsFolder, tagNo, Within, Named, rightNo, Opens, OneHeld, bitOf, heldOn}
+use Rattle.demands.specs.Ledger.{sfiOf, fidOf, fidOfTag}
 
--- ---- a search finds the one file that has a name: a name, that is, from which the SFI follows
--- no two files have one SFI
+-- ---- a search finds the one that has a name
+pub seek-the : (p : ℕ → Bool) (m n : ℕ) → 1 ≤ n → n ≤ m → p (n - 1) ≡ true → ((i : ℕ) → i < m → p i ≡ true → i ≡ n - 1) → seek p m ≡ n
+seek-the p m n low high h same =
+    let most : seek p m ≤ m = seek-low p m in
+    by-cases (ℕ-discrete (seek p m) 0) (λ z. clash (p (n - 1)) h (seek-absent p m z (n - 1) (omega (arith, low, high))))
+    (λ o. let some : 1 ≤ seek p m = omega (arith, o) in
+    let q = same (seek p m - 1) (omega (arith, some, most)) (seek-found p m some) in
+    omega (arith, q, some, low))
+
+-- of two places the later is not like the earlier: so no two are alike
+pub only-one : (m : ℕ) (alike : ℕ → ℕ → Type 0) → ((i j : ℕ) → j < m → i < j → alike i j → ⊥) → ((i j : ℕ) → alike i j → alike j i) → (i j : ℕ) → i < m → j < m → alike i j → i ≡ j
+only-one m alike apart turn i j hi hj e =
+    by-cases (decLt i j) (λ l. absurd (apart i j hj l e))
+    (λ l. by-cases (decLt j i) (λ k. absurd (apart j i hi k (turn i j e))) (λ k. omega arith))
+
 module _ (d : Directory) (g : soundDirectory d ≡ true) where
-  apart : (i j : ℕ) → j < d .count → i < j → sfi (fileAt (d .files) i) ≡ sfi (fileAt (d .files) j) → ⊥
+  -- no two files of a directory have one SFI
+  abbrev pub Alike : ℕ → ℕ → Type 0
+  Alike i j = (fileAt (d .files) i .folder ≡ fileAt (d .files) j .folder) × (sfi (fileAt (d .files) i) ≡ sfi (fileAt (d .files) j))
+
+  apart : (i j : ℕ) → j < d .count → i < j → Alike i j → ⊥
   apart i j hj l e =
-      clash (ofSfi (sfi (fileAt (d .files) j)) (fileAt (d .files) i)) (eq-eqb _ _ e)
-      (seek-absent (ofSfi (sfi (fileAt (d .files) j))) (d .files) j (eqb-true _ _ (filed d g .each-sfi j hj)) i l)
+      let f = fileAt (d .files) j in
+      clash (ofSfi (f .folder) (sfi f) (fileAt (d .files) i)) (join (eq-eqb _ _ (e .0)) (eq-eqb _ _ (e .1)))
+      (seek-absent (here (ofSfi (f .folder) (sfi f)) (d .files)) j (eqb-true _ _ (filed d g .each-sfi j hj)) i l)
 
-  pub one-sfi : (i j : ℕ) → i < d .count → j < d .count → sfi (fileAt (d .files) i) ≡ sfi (fileAt (d .files) j) → i ≡ j
-  one-sfi i j hi hj e =
-      by-cases (decLt i j) (λ l. absurd (apart i j hj l e))
-      (λ l. by-cases (decLt j i) (λ m. absurd (apart j i hi m (sym e))) (λ m. omega arith))
+  pub one-sfi : (i j : ℕ) → i < d .count → j < d .count → Alike i j → i ≡ j
+  one-sfi = only-one (d .count) Alike apart (λ i j e. (sym (e .0), sym (e .1)))
 
-module _ (d : Directory) (g : soundDirectory d ≡ true) (p : File → Bool) (n : ℕ) where
-  pub seek-the : 1 ≤ n → n ≤ d .count → p (file d n) ≡ true
-      → ((i : ℕ) → i < d .count → p (fileAt (d .files) i) ≡ true → sfi (fileAt (d .files) i) ≡ sfi (file d n)) → seek p (d .files) (used d) ≡ n
-  seek-the low high h same =
-      let m : ℕ = seek p (d .files) (used d) in
-      let u = used-count d g in
-      let most : seek p (d .files) (used d) ≤ used d = seek-low p (d .files) (used d) in
-      by-cases (ℕ-discrete (seek p (d .files) (used d)) 0)
-      (λ z. clash (p (file d n)) h (seek-absent p (d .files) (used d) z (n - 1) (omega (arith, low, high, u))))
-      (λ o. let some : 1 ≤ seek p (d .files) (used d) = omega (arith, o) in
-      let q = one-sfi d g (seek p (d .files) (used d) - 1) (n - 1) (omega (arith, some, most, u)) (omega (arith, low, high))
-      (same (seek p (d .files) (used d) - 1) (omega (arith, some, most, u)) (seek-found p (d .files) (used d) some)) in
-      omega (arith, q, some, low))
+  -- no two directories one FID
+  abbrev pub SameFid : ℕ → ℕ → Type 0
+  SameFid i j = files.folderFid (folderAt (d .folders) i) ≡ files.folderFid (folderAt (d .folders) j)
+
+  folders-apart : (i j : ℕ) → j < d .number → i < j → SameFid i j → ⊥
+  folders-apart i j hj l e =
+      let n : ℕ = files.folderFid (folderAt (d .folders) j) in
+      clash (folderHere n (d .folders) i) (eq-eqb _ _ e)
+      (seek-absent (folderHere n (d .folders)) j (eqb-true _ _ (folder-alone (d .folders) (d .number) (filed d g .folders) j hj)) i l)
+
+  pub one-fid : (i j : ℕ) → i < d .number → j < d .number → SameFid i j → i ≡ j
+  one-fid = only-one (d .number) SameFid folders-apart (λ i j e. sym e)
+
+pub found-folder : (c : Card) (x : ℕ) → 1 ≤ findFolder (c .directory) x → IsFolder c (findFolder (c .directory) x) × (fidOfTag (tagNo c (findFolder (c .directory) x)) ≡ x)
+found-folder c x some = (record { first = some; last = folder-low (c .directory) x }, folder-found (c .directory) x some)
 
 module _ (c : Card) (g : Good c) where
-  pub the-sfi : (x n : ℕ) → IsFile c n → sfiOf (labelNo c n) ≡ x → findSfi (c .directory) x ≡ n
-  unfolding findSfi
-  the-sfi x n t e =
-      seek-the (c .directory) (g .directory) (ofSfi x) n (t .first) (t .last) (eq-eqb _ _ e) (λ i l q. eqb-true _ _ q ∙ sym e)
+  abbrev d : Directory
+  d = c .directory
 
-  pub the-fid : (x n : ℕ) → IsFile c n → fidOf (labelNo c n) ≡ x → findFid (c .directory) x ≡ n
+  pub the-sfi : (folder x n : ℕ) → Within c folder n → sfiOf (labelNo c n) ≡ x → findSfi (c .directory) folder x ≡ n
+  unfolding findSfi
+  the-sfi folder x n w e =
+      let u = used-count d (g .directory) in
+      seek-the (here (ofSfi folder x) (d .files)) (used d) n (w .there .first) (omega (arith, w .there .last, u)) (join (eq-eqb _ _ (w .lies)) (eq-eqb _ _ e))
+      (λ i l q. let t = both (eqb (fileAt (d .files) i .folder) folder) (eqb (sfi (fileAt (d .files) i)) x) q in
+      one-sfi d (g .directory) i (n - 1) (omega (arith, l, u)) (omega (arith, w .there .first, w .there .last)) (eqb-true _ _ (t .0) ∙ sym (w .lies), eqb-true _ _ (t .1) ∙ sym e))
+
+  pub the-fid : (folder x n : ℕ) → Within c folder n → fidOf (labelNo c n) ≡ x → findFid (c .directory) folder x ≡ n
   unfolding findFid
-  the-fid x n t e =
-      seek-the (c .directory) (g .directory) (ofFid x) n (t .first) (t .last) (eq-eqb _ _ e) (λ i l q. ap (λ z. z % 32) (eqb-true _ _ q ∙ sym e))
+  the-fid folder x n w e =
+      let u = used-count d (g .directory) in
+      seek-the (here (ofFid folder x) (d .files)) (used d) n (w .there .first) (omega (arith, w .there .last, u)) (join (eq-eqb _ _ (w .lies)) (eq-eqb _ _ e))
+      (λ i l q. let t = both (eqb (fileAt (d .files) i .folder) folder) (eqb (fid (fileAt (d .files) i)) x) q in
+      one-sfi d (g .directory) i (n - 1) (omega (arith, l, u)) (omega (arith, w .there .first, w .there .last))
+      (eqb-true _ _ (t .0) ∙ sym (w .lies), ap (λ z. z % 32) (eqb-true _ _ (t .1) ∙ sym e)))
+
+  pub the-folder : (x n : ℕ) → IsFolder c n → fidOfTag (tagNo c n) ≡ x → findFolder (c .directory) x ≡ n
+  unfolding findFolder
+  the-folder x n t e =
+      let few = filed d (g .directory) .folders .few in
+      let u : min (d .number) 4 ≡ d .number = omega (arith, few) in
+      rw u
+      (seek-the (folderHere x (d .folders)) (d .number) n (t .first) (t .last) (eq-eqb _ _ e)
+      (λ i l q. one-fid d (g .directory) i (n - 1) l (omega (arith, t .first, t .last)) (eqb-true _ _ q ∙ sym e)))
 
   -- what is found is there and has the name
-  pub found-sfi : (x : ℕ) → 1 ≤ findSfi (c .directory) x → sfiOf (labelNo c (findSfi (c .directory) x)) ≡ x
-  unfolding findSfi
-  found-sfi x some = eqb-true _ _ (seek-found (ofSfi x) (c .directory .files) (used (c .directory)) some)
+  pub found-sfi : (folder x : ℕ) → 1 ≤ findSfi (c .directory) folder x → Within c folder (findSfi (c .directory) folder x) × (sfiOf (labelNo c (findSfi (c .directory) folder x)) ≡ x)
+  found-sfi folder x some =
+      let q = sfi-found d folder x some in
+      (record { there = record { first = some; last = sfi-low d (g .directory) folder x }; lies = q .0 }, q .1)
 
-  pub found-fid : (x : ℕ) → 1 ≤ findFid (c .directory) x → fidOf (labelNo c (findFid (c .directory) x)) ≡ x
-  unfolding findFid
-  found-fid x some = eqb-true _ _ (seek-found (ofFid x) (c .directory .files) (used (c .directory)) some)
+  pub found-fid : (folder x : ℕ) → 1 ≤ findFid (c .directory) folder x → Within c folder (findFid (c .directory) folder x) × (fidOf (labelNo c (findFid (c .directory) folder x)) ≡ x)
+  found-fid folder x some =
+      let q = fid-found d folder x some in
+      (record { there = record { first = some; last = fid-low d (g .directory) folder x }; lies = q .0 }, q .1)
 
   -- the target of a command is the file that it names
   pub named-target : (x n : ℕ) → Named c x n → target c x ≡ n
   unfolding target
   named-target x n q =
-      by-cases (ℕ-discrete x 0) (λ e. rw (eq-eqb x 0 e) (q .current e)) (λ o. rw (ne-eqb x 0 o) (the-sfi x n (q .there) (q .by-sfi o)))
+      by-cases (ℕ-discrete x 0) (λ e. rw (eq-eqb x 0 e) (q .current e))
+      (λ o. rw (ne-eqb x 0 o) (the-sfi (c .session .folder) x n (record { there = q .there; lies = q .lies }) (q .by-sfi o)))
 
   at-zero : (x : ℕ) → x ≡ 0 → target c x ≡ c .session .current
   unfolding target
@@ -89,11 +129,12 @@ module _ (c : Card) (g : Good c) where
 
   by-sfi : (x : ℕ) → (x ≡ 0 → ⊥) → 1 ≤ target c x → sfiOf (labelNo c (target c x)) ≡ x
   unfolding target
-  by-sfi x o = rw (ne-eqb x 0 o) (found-sfi x)
+  by-sfi x o = rw (ne-eqb x 0 o) (λ some. found-sfi (c .session .folder) x some .1)
 
   pub target-named : (x : ℕ) → 1 ≤ target c x → Named c x (target c x)
   target-named x some = record {
     there = record { first = some; last = target-low c g x };
+    lies = lies-there d (target c x) (c .session .folder) (target-lies c g x) some;
     by-sfi = λ o. by-sfi x o some;
     current = λ e. sym (at-zero x e);
   }

@@ -3,18 +3,20 @@
 use Prim.Native.Nat.{ℕ, _+_, _≤_}
 use mathlib.Core.Bool.{Bool, true, false, cond, not, _&&_}
 use mathlib.Core.List.{List, [], _∷_}
-use mathlib.Core.Path.{_≡_, refl, sym, ap, _∙_}
+use mathlib.Core.Path.{_≡_, refl, sym, ap, ap₂, _∙_}
 use native.Mathlib.Omega.{arith}
 use lib.ListN.{length, take}
 use lib.Dec.{eqb, leb}
 use borrow.Author.Tests.{eqb-true, not-true}
 use Rattle.files.specs.declared.File.{File}
+use Rattle.files.specs.declared.Folder.{Folder}
 use Rattle.files.specs.declared.Located.{Located}
 use Rattle.files.specs.Words.{isZero}
 use Rattle.files.specs.Types.{binary, isVariable, size}
 use Rattle.files.specs.Directory.{extent}
 use Rattle.files.specs.Record.{nextStart, entry, appended, appendsRecord}
 use Rattle.files.specs.Create.{areaSize, creates}
+use Rattle.files.specs.Create as directory
 use Rattle.files.proofs.Checks.{both, split}
 use Rattle.files.proofs.Parting.{Stored, stored-plain}
 use Rattle.files.proofs.Served.{binary-fits}
@@ -23,28 +25,29 @@ use Rattle.rules.specs.declared.Card.{Card}
 use Rattle.rules.specs.declared.Ins.{Ins}
 use Rattle.rules.specs.declared.Ins.the-variants.{Select, ReadBinary, UpdateBinary, ReadRecord, UpdateRecord, AppendRecord, Verify, Authenticate, ChangePin, ReloadPin, CreateFile, GetChallenge, GetResponse, Unlisted}
 use Rattle.rules.specs.Words.{unless, first, allOf}
-use Rattle.rules.specs.State.{Which, admin, user, device, numberOf, Login, Logins, login, logins, challenge}
+use Rattle.rules.specs.State.{Which, admin, user, device, numberOf, Login, Logins, logins, challenge}
 use Rattle.rules.specs.Sound.{digit, isKey, goodPin, goodChallenge, sound}
 use Rattle.rules.specs.Frame.{Command, lc, frameSw, classSw}
-use Rattle.rules.specs.Effect.{Deed, turns, shows, stores, appends, makes, Touch, nothing, presents, changes, reloads, challenges, Effect, answers}
-use Rattle.rules.specs.Select.{selectChecks}
+use Rattle.rules.specs.Effect.{Deed, turns, enters, shows, stores, appends, makes, founds, Touch, nothing, presents, changes, reloads, challenges, Effect, answers}
+use Rattle.rules.specs.Select.{selected, selectChecks, selectDeed}
 use Rattle.rules.specs.Binary.{target, fileOf, fileSw, opens, rightSw, offset, binaryTarget, readCount, readBinaryChecks, updateBinaryChecks}
 use Rattle.rules.specs.Record.{recordTarget, recordFound, readRecordChecks, updateRecordChecks, appendChecks}
 use Rattle.rules.specs.Pins.{whichOf, pinNamed, pinGiven, triesSw, digitsSw, verifyChecks, changeChecks, reloadChecks}
 use Rattle.rules.specs.Device.{authenticateChecks, getChallengeChecks}
-use Rattle.rules.specs.Create.{fileGiven, createChecks}
-use Rattle.rules.specs.List.{makesFile, role, Rule, ofFiles, ofCredentials, rule}
+use Rattle.rules.specs.Create.{isFolder, creationRight, createChecks, createDeed}
+use Rattle.rules.specs.List.{selects, makesFile, role, Rule, ofFiles, ofCredentials, rule}
 use Rattle.rules.specs.Step.{checksOf, did, touched, effectBy, checks, effectOf, ruled, outcome}
 use Rattle.rules.proofs.Checks.{Passed, passed, holds, ruled-by}
-use Rattle.rules.proofs.Good.{sound-good}
-use Rattle.rules.proofs.Targets.{not-zero, read-few, target-low, selected-low}
-use Rattle.rules.proofs.Asked.{some-file, binary-asked, create-asked, pin-asked, challenge-asked}
+use Rattle.rules.proofs.Good.{Lies, Good, sound-good}
+use Rattle.rules.proofs.Targets.{not-zero, read-few, target-low, target-lies, selected-low, selected-lies, entered-low}
+use Rattle.rules.proofs.Asked.{some-file, binary-asked, create-asked, found-asked, found-in-root, pin-asked, challenge-asked}
 use Rattle.rules.proofs.Found.{read-fits, read-long, update-fits, update-stored, append-fits, append-stored}
 use Rattle.rules.proofs.Found as found
 use Rattle.rules.proofs.Equal.{cryptogram-is}
-use Rattle.demands.specs.Ledger.{Kind, other, changed, reloaded, Label, pinSent, inDigits, presentAsks, keyAsks, changeAsks, reloadAsks, challengeAsks, response, passes, presented, about, kind, challenged, labelGiven, labelled, pinOf}
-use Rattle.demands.specs.Held.{labelOf}
-use Rattle.demands.proofs.Labels.{Matches, given-label, create-same}
+use Rattle.demands.specs.Ledger.{Kind, other, changed, reloaded, Tree, pinSent, inDigits, presentAsks, keyAsks, changeAsks, reloadAsks, challengeAsks, response, passes, presented, about, kind, challenged, labelGiven, tagGiven, grown, pinOf}
+use Rattle.demands.specs.Held.{labelOf, tagOf}
+use Rattle.demands.proofs.Trees.{all-passed}
+use Rattle.demands.proofs.Labels.{Matches, treeBy, given-label, given-tag, create-same, create-leaves, select-same, select-leads}
 use Rattle.demands.proofs.Addressed.{writesTo, readsFrom}
 
 -- what comes of a command by its rule
@@ -66,14 +69,6 @@ leftBy (changes v d) random = []
 leftBy (reloads v d) random = []
 leftBy (challenges n) random = take n random
 
--- the labels that a deed leaves
-abbrev pub labelsBy : Deed → List Label → List Label
-labelsBy (turns place) made = made
-labelsBy (shows place at n) made = made
-labelsBy (stores place at d) made = made
-labelsBy (appends place d) made = made
-labelsBy (makes f) made = labelOf f ∷ made
-
 -- what a touch has by the checks: a try left; a PIN, its right held, and a good one given; the user PIN, the admin right held, and a good one given; a
 -- challenge of 4, 8 or 16 bytes
 abbrev pub FairTouch : Logins → Touch → Type 0
@@ -83,11 +78,12 @@ FairTouch l (changes w d) = (isKey (numberOf w) ≡ false) × (l w .held ≡ tru
 FairTouch l (reloads w d) = (w ≡ user) × (l admin .held ≡ true) × (goodPin d ≡ true)
 FairTouch l (challenges n) = goodChallenge n ≡ true
 
--- a file that is there, is the one that the command addresses, and whose right is held
+-- a file that is there, is the one that the command addresses, lies in the current directory, and whose right is held
 pub record Entitled (c : Card) (named place right : ℕ) : Type 0 where
   pub named-is : named ≡ place
   pub some : 1 ≤ place
   pub low : place ≤ c .directory .count
+  pub lies : Lies (c .directory) place (c .session .folder)
   pub held : opens c right ≡ true
 
 pub record FairShow (c : Card) (k : Command) (named place at n : ℕ) : Type 0 where
@@ -106,27 +102,40 @@ pub record FairAppend (c : Card) (area : List ℕ) (named place : ℕ) (d : List
       FairStore c area named place (nextStart (fileOf c place)) (appended (fileOf c place) (length d)) (entry (fileOf c place) d)
   pub served : appendsRecord (fileOf c place) (length d) ≡ true
 
+-- a file that becomes current: it is there, and in the current directory
+pub record FairTurn (c : Card) (place : ℕ) : Type 0 where
+  pub low : place ≤ c .directory .count
+  pub lies : Lies (c .directory) place (c .session .folder)
+
 pub record FairMake (i : Ins) (c : Card) (k : Command) (f : File) : Type 0 where
   pub by-create : i ≡ CreateFile
-  pub held : login device c .held ≡ true
-  pub given : labelOf f ≡ labelGiven k
+  pub held : opens c (creationRight c) ≡ true
+  pub given : labelOf f ≡ labelGiven (c .session .folder) k
   pub served : creates (c .directory) f areaSize ≡ true
+
+pub record FairFound (i : Ins) (c : Card) (k : Command) (x : Folder) : Type 0 where
+  pub by-create : i ≡ CreateFile
+  pub in-root : c .session .folder ≡ 0
+  pub held : opens c (creationRight c) ≡ true
+  pub given : tagOf x ≡ tagGiven k
+  pub served : directory.founds (c .directory) x ≡ true
 
 -- what a deed has by the checks, on a sound card
 abbrev pub Fair : Ins → Card → List ℕ → Command → Deed → Type 0
-Fair i c area k (turns place) = place ≤ c .directory .count
+Fair i c area k (turns place) = FairTurn c place
+Fair i c area k (enters n) = n ≤ c .directory .number
 Fair i c area k (shows place at n) = FairShow c k (readsFrom (role i) c k) place at n
 Fair i c area k (stores place at d) = FairStore c area (writesTo (role i) c k) place at (fileOf c place) d
 Fair i c area k (appends place d) = FairAppend c area (writesTo (role i) c k) place d
 Fair i c area k (makes f) = FairMake i c k f
+Fair i c area k (founds x) = FairFound i c k x
 
 -- a rule of files is nothing to the ledger's credentials, it makes what its deed makes, where the checks pass, and its deed is fair
 pub record FileRow (i : Ins) (t : Card → Located → Command → List ℕ) (d : Card → Located → Command → Deed) : Type 0 where
   pub kind-is : (l : Logins) (ch : List ℕ) (k : Command) (w : Which) → kind (role i) l ch k w ≡ other
   pub left-is : (k : Command) (random : List ℕ) → challenged (role i) k random ≡ []
-  pub labels-are : (c : Card) (area : List ℕ) → sound c area ≡ true → (made : List Label) → Matches (c .directory) made → (k : Command)
-      → labelled (role i) (logins c) made k
-      ≡ cond (passes (t c (recordFound c area k) k) k) (labelsBy (d c (recordFound c area k) k) made) made
+  pub tree-is : (c : Card) (area : List ℕ) → sound c area ≡ true → (w : Tree) → Matches (c .directory) (c .session .folder) w → (k : Command)
+      → grown (role i) (logins c) w k ≡ cond (passes (t c (recordFound c area k) k) k) (treeBy (d c (recordFound c area k) k) w) w
   pub fair : (c : Card) (area : List ℕ) → sound c area ≡ true → (k : Command) → Passed (t c (recordFound c area k) k)
       → Fair i c area k (d c (recordFound c area k) k)
 
@@ -136,16 +145,12 @@ pub record TouchRow (i : Ins) (t : Logins → List ℕ → Command → List ℕ)
       → kind (role i) l ch k w ≡ cond (passes (t l ch k) k) (kindOf (d l ch k) w) other
   pub left-is : (l : Logins) (ch : List ℕ) (k : Command) (random : List ℕ)
       → challenged (role i) k random ≡ cond (passes (t l ch k) k) (leftBy (d l ch k) random) []
-  pub labels-are : (l : Logins) (made : List Label) (k : Command) → labelled (role i) l made k ≡ made
+  pub tree-is : (l : Logins) (w : Tree) (k : Command) → grown (role i) l w k ≡ w
   pub fair : (l : Logins) (ch : List ℕ) (k : Command) → Passed (t l ch k) → FairTouch l (d l ch k)
 
 abbrev pub Row : Ins → Rule → Type 0
 Row i (ofFiles t d) = FileRow i t d
 Row i (ofCredentials t d) = TouchRow i t d
-
--- every check of the command passed
-pub all-passed : (l : List ℕ) (k : Command) → passes l k ≡ true → Passed l
-all-passed l k e = passed l (passed (frameSw k ∷ classSw k ∷ first l ∷ []) (eqb-true _ _ e) .1 .1 .0)
 
 -- a binary file has no length bytes
 binary-plain : (f : File) → unless (eqb (f .kind) binary) 0x6981 ≡ 0x9000 → isVariable f ≡ false
@@ -158,6 +163,7 @@ module _ (c : Card) (area : List ℕ) (h : sound c area ≡ true) (k : Command) 
     named-is = refl;
     some = some-file (target c sfi) f;
     low = target-low c (sound-good c area h) sfi;
+    lies = target-lies c (sound-good c area h) sfi;
     held = holds (opens c byte) 0x6982 refl r;
   }
 
@@ -223,14 +229,20 @@ module _ (c : Card) (area : List ℕ) (h : sound c area ≡ true) (k : Command) 
         served = found.appends c area h k some p;
       }
 
-  file-make : Passed (createChecks c k) → FairMake CreateFile c k (fileGiven k)
+  -- what a CREATE FILE makes
+  created : Passed (createChecks c k) → Fair CreateFile c area k (createDeed c k)
   unfolding createChecks
-  file-make p = record {
-    by-create = refl;
-    held = holds (login device c .held) 0x6982 refl (p .1 .1 .0);
-    given = given-label k;
-    served = create-asked c k p;
-  }
+  created p =
+      let held = holds (opens c (creationRight c)) 0x6982 refl (p .1 .1 .0) in
+      split (Fair CreateFile c area k) (isFolder k)
+      (λ e. record { by-create = refl; in-root = found-in-root c k e p; held = held; given = given-tag k; served = found-asked c k e p })
+      (λ e. record { by-create = refl; held = held; given = given-label (c .session .folder) k; served = create-asked c k (sound-good c area h .folder) e p })
+
+  -- where a SELECT leads
+  turned : Fair Select c area k (selectDeed c k)
+  turned =
+      let g = sound-good c area h in
+      split (Fair Select c area k) (isZero (selected c k)) (λ e. entered-low c g k) (λ e. record { low = selected-low c g k; lies = selected-lies c g k })
 
 -- a try is left
 try-left : (l : Login) → triesSw l ≡ 0x9000 → 1 ≤ l .tries .left
@@ -254,14 +266,24 @@ either-way : {A : Type 0} (p : Bool) (x : A) → x ≡ cond p x x
 either-way true x = refl
 either-way false x = refl
 
--- what is made where the checks of CREATE FILE pass
-made-label : (c : Card) (area : List ℕ) → sound c area ≡ true → (made : List Label) → Matches (c .directory) made → (k : Command)
-    → labelled makesFile (logins c) made k ≡ cond (passes (createChecks c k) k) (labelOf (fileGiven k) ∷ made) made
-unfolding labelled
-made-label c area h made m k =
-    ap (λ (t : List ℕ). cond (passes t k) (labelGiven k ∷ made) made)
-    (sym (create-same c (filed (c .directory) (sound-good c area h .directory) .few) made m k))
-    ∙ ap (λ (x : Label). cond (passes (createChecks c k) k) (x ∷ made) made) (sym (given-label k))
+-- where the checks of CREATE FILE pass, and those of SELECT
+module _ (c : Card) (area : List ℕ) (h : sound c area ≡ true) (w : Tree) (m : Matches (c .directory) (c .session .folder) w) (k : Command) where
+  abbrev g : Good c
+  g = sound-good c area h
+
+  made-tree : grown makesFile (logins c) w k ≡ cond (passes (createChecks c k) k) (treeBy (createDeed c k) w) w
+  unfolding grown
+  made-tree =
+      let e = filed (c .directory) (g .directory) in
+      sym (ap₂ (λ (t : List ℕ) (x : Tree). cond (passes t k) x w) (create-same c (e .few) (e .folders .few) (g .folder) w m k)
+      (create-leaves c (e .few) (e .folders .few) (g .folder) w m k))
+
+  turned-tree : grown selects (logins c) w k ≡ cond (passes (selectChecks c k) k) (treeBy (selectDeed c k) w) w
+  unfolding grown
+  turned-tree =
+      let e = filed (c .directory) (g .directory) in
+      sym (ap₂ (λ (t : List ℕ) (x : Tree). cond (passes t k) x w) (select-same c (e .few) (e .folders .few) (g .folder) w m k)
+      (select-leads c (e .few) (e .folders .few) (g .folder) w m k))
 
 module _ (l : Logins) (k : Command) where
   pin-presented : Passed (verifyChecks l k) → FairTouch l (cond (eqb (k .case) 1) nothing (presents (pinNamed k) (l (pinNamed k) .value) (k .given)))
@@ -341,41 +363,41 @@ module _ (l : Logins) (k : Command) where
       go false e = ap (λ sw. cond (eqb (first (frameSw k ∷ classSw k ∷ sw ∷ [])) 0x9000) x other) (with-data e)
 
 pub row : (i : Ins) → Row i (rule i)
-unfolding rule kind challenged labelled writesTo readsFrom
+unfolding rule kind challenged grown writesTo readsFrom
 row Select = record {
   kind-is = λ l ch k w. refl;
   left-is = λ k random. refl;
-  labels-are = λ c area h made m k. either-way (passes (selectChecks c k) k) made;
-  fair = λ c area h k p. selected-low c (sound-good c area h) k;
+  tree-is = λ c area h w m k. turned-tree c area h w m k;
+  fair = λ c area h k p. turned c area h k;
 }
 row ReadBinary = record {
   kind-is = λ l ch k w. refl;
   left-is = λ k random. refl;
-  labels-are = λ c area h made m k. either-way (passes (readBinaryChecks c k) k) made;
+  tree-is = λ c area h w m k. either-way (passes (readBinaryChecks c k) k) w;
   fair = λ c area h k p. binary-read c area h k p;
 }
 row UpdateBinary = record {
   kind-is = λ l ch k w. refl;
   left-is = λ k random. refl;
-  labels-are = λ c area h made m k. either-way (passes (updateBinaryChecks c k) k) made;
+  tree-is = λ c area h w m k. either-way (passes (updateBinaryChecks c k) k) w;
   fair = λ c area h k p. binary-update c area h k p;
 }
 row ReadRecord = record {
   kind-is = λ l ch k w. refl;
   left-is = λ k random. refl;
-  labels-are = λ c area h made m k. either-way (passes (readRecordChecks c (recordFound c area k) k) k) made;
+  tree-is = λ c area h w m k. either-way (passes (readRecordChecks c (recordFound c area k) k) k) w;
   fair = λ c area h k p. record-read c area h k p;
 }
 row UpdateRecord = record {
   kind-is = λ l ch k w. refl;
   left-is = λ k random. refl;
-  labels-are = λ c area h made m k. either-way (passes (updateRecordChecks c (recordFound c area k) k) k) made;
+  tree-is = λ c area h w m k. either-way (passes (updateRecordChecks c (recordFound c area k) k) k) w;
   fair = λ c area h k p. record-update c area h k p;
 }
 row AppendRecord = record {
   kind-is = λ l ch k w. refl;
   left-is = λ k random. refl;
-  labels-are = λ c area h made m k. either-way (passes (appendChecks c k) k) made;
+  tree-is = λ c area h w m k. either-way (passes (appendChecks c k) k) w;
   fair = λ c area h k p. record-append c area h k p;
 }
 row Verify = record {
@@ -384,7 +406,7 @@ row Verify = record {
       ∙ verify-same l k (about (pinNamed k) w (presented (l (pinNamed k) .value) (k .given)))
       ∙ ap (λ x. cond (passes (verifyChecks l k) k) x other) (query-kind (eqb (k .case) 1) (pinNamed k) (l (pinNamed k) .value) (k .given) w);
   left-is = λ l ch k random. query-left (eqb (k .case) 1) (pinNamed k) (l (pinNamed k) .value) (k .given) (passes (verifyChecks l k) k) random;
-  labels-are = λ l made k. refl;
+  tree-is = λ l w k. refl;
   fair = λ l ch k p. pin-presented l k p;
 }
 row Authenticate = record {
@@ -392,7 +414,7 @@ row Authenticate = record {
       ap (λ (t : List ℕ). cond (passes t k) (about device w (presented (response (l device .value) ch) (k .given))) other) (key-same l ch k)
       ∙ ap (λ (x : List ℕ). cond (passes (authenticateChecks l ch k) k) (about device w (presented x (k .given))) other) (sym (cryptogram-is (l device .value) ch));
   left-is = λ l ch k random. either-way (passes (authenticateChecks l ch k) k) [];
-  labels-are = λ l made k. refl;
+  tree-is = λ l w k. refl;
   fair = λ l ch k p. key-presented l k ch p;
 }
 row ChangePin = record {
@@ -400,37 +422,37 @@ row ChangePin = record {
       ap (λ (x : Which). cond (passes (changeAsks (l x) k) k) (about x w (changed (k .given))) other) (pin-same k)
       ∙ ap (λ (t : List ℕ). cond (passes t k) (about (pinNamed k) w (changed (k .given))) other) (change-same l k);
   left-is = λ l ch k random. either-way (passes (changeChecks l k) k) [];
-  labels-are = λ l made k. refl;
+  tree-is = λ l w k. refl;
   fair = λ l ch k p. pin-changed l k p;
 }
 row ReloadPin = record {
   kind-is = λ l ch k w. ap (λ (t : List ℕ). cond (passes t k) (about user w (reloaded (k .given))) other) (reload-same l k);
   left-is = λ l ch k random. either-way (passes (reloadChecks l k) k) [];
-  labels-are = λ l made k. refl;
+  tree-is = λ l w k. refl;
   fair = λ l ch k p. pin-reloaded l k p;
 }
 row CreateFile = record {
   kind-is = λ l ch k w. refl;
   left-is = λ k random. refl;
-  labels-are = λ c area h made m k. made-label c area h made m k;
-  fair = λ c area h k p. file-make c area h k p;
+  tree-is = λ c area h w m k. made-tree c area h w m k;
+  fair = λ c area h k p. created c area h k p;
 }
 row GetChallenge = record {
   kind-is = λ l ch k w. either-way (passes (getChallengeChecks k) k) other;
   left-is = λ l ch k random. ap (λ (t : List ℕ). cond (passes t k) (take (k .le) random) []) (challenge-same k);
-  labels-are = λ l made k. refl;
+  tree-is = λ l w k. refl;
   fair = λ l ch k p. challenge-asked k p;
 }
 row GetResponse = record {
   kind-is = λ l ch k w. either-way (passes (0x6D00 ∷ []) k) other;
   left-is = λ l ch k random. either-way (passes (0x6D00 ∷ []) k) [];
-  labels-are = λ l made k. refl;
+  tree-is = λ l w k. refl;
   fair = λ l ch k p. tt;
 }
 row Unlisted = record {
   kind-is = λ l ch k w. either-way (passes (0x6D00 ∷ []) k) other;
   left-is = λ l ch k random. either-way (passes (0x6D00 ∷ []) k) [];
-  labels-are = λ l made k. refl;
+  tree-is = λ l w k. refl;
   fair = λ l ch k p. tt;
 }
 

@@ -22,7 +22,7 @@ use Rattle.rules.specs.declared.Response.{Response}
 use Rattle.rules.specs.Words.{same}
 use Rattle.rules.specs.State.{logins, mode, responseSize, waitCount, waiting, withWaiting}
 use Rattle.rules.specs.Frame.{Command, framed}
-use Rattle.rules.specs.Effect.{Deed, turns, shows, stores, appends, makes, Touch, nothing, presents, changes, reloads, challenges, Effect, answers}
+use Rattle.rules.specs.Effect.{Deed, turns, enters, shows, stores, appends, makes, founds, Touch, nothing, presents, changes, reloads, challenges, Effect, answers}
 use Rattle.rules.specs.Binary.{fileOf, opens}
 use Rattle.rules.specs.Record.{recordFound}
 use Rattle.rules.specs.Pins.{comparedAt}
@@ -87,6 +87,7 @@ module _ (c : Card) (area : List ℕ) (live : Live (world c area)) (i : Ins) (k 
   deed-source : (d : Deed) → Fair i c area k d → Source i c area k (did c d)
   unfolding extent
   deed-source (turns place) q = none _ _
+  deed-source (enters n) q = none _ _
   deed-source (shows place at n) q =
       let g = sound-good c area (live .sound-card) in
       let named = place-named (c .directory) (g .directory) place (q .entitled .some) (q .entitled .low) in
@@ -103,6 +104,7 @@ module _ (c : Card) (area : List ℕ) (live : Live (world c area)) (i : Ins) (k 
   deed-source (stores place at bytes) q = inl (nothing-shown area)
   deed-source (appends place bytes) q = inl (nothing-shown area)
   deed-source (makes f) q = inl (nothing-shown area)
+  deed-source (founds x) q = none _ _
 
   touch-source : (t : Touch) (random : List ℕ) → FairTouch (logins c) t → Source i c area k (touched c t random)
   unfolding comparedAt

@@ -12,10 +12,10 @@ use lib.Seq.{length-take-le}
 use Rattle.files.specs.declared.File.{File}
 use Rattle.files.specs.Words.{every, allBelow, isZero}
 use Rattle.files.specs.Part.{part, splice, over, zeros}
-use Rattle.files.specs.State.{emptied}
+use Rattle.files.specs.State.{emptied, withFile}
 use Rattle.files.specs.Directory.{start, extent, used}
-use Rattle.files.specs.Record.{partedFile}
-use Rattle.files.specs.Create.{areaSize, created}
+use Rattle.files.specs.Record.{appended, partedFile}
+use Rattle.files.specs.Create.{areaSize, created, founded}
 use Rattle.files.proofs.Parts.{splice-length, over-length}
 use Rattle.files.proofs.Checks.{each, both, split}
 use Rattle.files.proofs.Extents.{file-set, used-is, lies}
@@ -29,7 +29,7 @@ use Rattle.rules.specs.Tries.{goodLimit}
 use Rattle.rules.specs.State.{Which, whiches, numberOf, marked, login, logins, mode, waitCount, waiting, withCurrent, withValue}
 use Rattle.rules.specs.Sound.{isKey, goodMode, goodPin, goodValue, soundValue, soundCredential, soundState, sound}
 use Rattle.rules.specs.Frame.{Command, framed}
-use Rattle.rules.specs.Effect.{Deed, turns, shows, stores, appends, makes, Touch, nothing, presents, changes, reloads, challenges, Effect, answers, storing}
+use Rattle.rules.specs.Effect.{Deed, turns, enters, shows, stores, appends, makes, founds, Touch, nothing, presents, changes, reloads, challenges, Effect, answers, storing}
 use Rattle.rules.specs.Binary.{fileOf}
 use Rattle.rules.specs.Record.{recordFound}
 use Rattle.rules.specs.Pins.{comparedAt}
@@ -38,10 +38,12 @@ use Rattle.rules.specs.Response.{fetchCount}
 use Rattle.rules.specs.Step.{did, touched, outcome, Stepped, settled, atOnce, step}
 use Rattle.rules.specs.Calls.{Order, goodGiven, goodOrder, fresh, cleared, answer}
 use Rattle.rules.proofs.Checks.{either}
-use Rattle.rules.proofs.Good.{Good, for-which, sound-good, sound-parted, sound-both, tried-full, tried-lowered, value-sound, sayable, said-short, placed, turned, tried-in, logged, valued, challenged, responded, waited, ended, made}
-use Rattle.rules.proofs.Targets.{place-named, place-run}
+use Rattle.rules.proofs.Good.{Good, for-which, sound-good, sound-parted, sound-both, tried-full, tried-lowered, value-sound, sayable, said-short, placed, turned, entered, founded-good, tried-in, logged, valued, challenged, responded, waited, ended, made}
+use Rattle.rules.proofs.Targets.{place-named, place-run, some-lies, lies-there}
 use Rattle.demands.specs.Soundness.{Bytes, StepSound, StepArea, StepReply, CommandSound, CommandArea, CommandReply, CommandCount, CommandServed, ResetSound, ResetServed, IssueServed, IssueArea, BlankUnsound}
 use Rattle.demands.proofs.Calls.{called-by, reset-by, issued-by}
+use Rattle.demands.specs.Ledger.{Label}
+use Rattle.demands.proofs.Labels.{appended-label}
 use Rattle.demands.proofs.Rows.{FairStore, Fair, FairTouch, by-rule}
 use Rattle.demands.proofs.Delivered.{at-once-response, fetched-by, step-by}
 use Rattle.demands.proofs.Files.{treats, treated-parted}
@@ -82,23 +84,32 @@ module _ (c : Card) (area : List ℕ) (h : sound c area ≡ true) (k : Command) 
   }
 
   deed-leaves : (i : Ins) (x : Deed) → Fair i c area k x → Leaves c k random (did c x)
-  unfolding created
-  deed-leaves i (turns place) q = leaves-card _ _ (turned c g place q) refl
+  unfolding created founded
+  deed-leaves i (turns place) q = leaves-card _ _ (turned c g place (q .low) (q .lies)) refl
+  deed-leaves i (enters n) q = leaves-card _ _ (entered c g n q) refl
   deed-leaves i (shows place at n) q = record {
-    card = turned c g place (q .entitled .low);
+    card = turned c g place (q .entitled .low) (q .entitled .lies);
     new = none-new (withCurrent c place) refl;
     said = λ l. refl;
     few = λ l m. omega (arith, q .few m);
     shown = place-run (c .directory) (g .directory) place (q .entitled .some) (q .entitled .low) at n (q .fits);
     stored = omega arith;
   }
-  deed-leaves i (stores place at d) q = leaves-stored _ (turned c g place (q .entitled .low)) refl q
+  deed-leaves i (stores place at d) q = leaves-stored _ (turned c g place (q .entitled .low) (q .entitled .lies)) refl q
   deed-leaves i (appends place d) q =
-      let low = q .fair .entitled .low in
-      let named = place-named (c .directory) (g .directory) place (q .fair .entitled .some) low in
-      leaves-stored _ (placed c g _ place (sound-append (c .directory) place (length d) (g .directory) named (q .served)) low) refl (q .fair)
+      let who = q .fair .entitled in
+      let w = filed (c .directory) (g .directory) in
+      let named = place-named (c .directory) (g .directory) place (who .some) (who .low) in
+      let f = appended (fileOf c place) (length d) in
+      let same = file-set (c .directory .files) (place - 1) f (omega (arith, w .places, w .few, who .some, who .low)) in
+      let there = some-lies (withFile (c .directory) (place - 1) f) place (c .session .folder)
+      (λ l. ap (λ (z : File). z .folder) same ∙ ap (λ (z : Label). z .within) (appended-label (fileOf c place) (length d)) ∙ lies-there (c .directory) place (c .session .folder) (who .lies) (who .some)) in
+      let after = sound-append (c .directory) place (length d) (g .directory) named (q .served) in
+      leaves-stored _ (placed c g _ place after (who .low) (g .folder) there) refl (q .fair)
   deed-leaves i (makes f) q = record {
-    card = placed c g _ (c .directory .count + 1) (sound-created (c .directory) f 4096 (g .directory) (q .served)) (le-refl _);
+    card =
+        placed c g _ (c .directory .count + 1) (sound-created (c .directory) f 4096 (g .directory) (q .served)) (le-refl _) (g .folder)
+        (some-lies (created (c .directory) f) (c .directory .count + 1) (c .session .folder) (λ l. new-within));
     new = one-new;
     said = λ l. refl;
     few = λ l m. omega arith;
@@ -106,6 +117,13 @@ module _ (c : Card) (area : List ℕ) (h : sound c area ≡ true) (k : Command) 
     stored = simp length-replicate (made-in (c .directory) f 4096 (q .served) .fits);
   }
     where
+      new-within : fileOf (did c (makes f) .card) (c .directory .count + 1) .folder ≡ c .session .folder
+      new-within =
+          let w = filed (c .directory) (g .directory) in
+          let few = made-in (c .directory) f 4096 (q .served) .few in
+          let e : c .directory .count + 1 - 1 ≡ c .directory .count = omega arith in
+          rw (e, file-set (c .directory .files) (c .directory .count) (emptied f) (omega (arith, w .places, few))) (ap (λ (x : Label). x .within) (q .given))
+
       one-new : (place : ℕ) → c .directory .count < place → place ≤ c .directory .count + 1 → (x : List ℕ)
           → partedFile (fileOf (did c (makes f) .card) place) x ≡ true
       one-new place lo hi x =
@@ -113,6 +131,7 @@ module _ (c : Card) (area : List ℕ) (h : sound c area ≡ true) (k : Command) 
           let few = made-in (c .directory) f 4096 (q .served) .few in
           let e : place - 1 ≡ c .directory .count = omega arith in
           rw (e, file-set (c .directory .files) (c .directory .count) (emptied f) (omega (arith, w .places, few))) (new-parted f x)
+  deed-leaves i (founds x) q = leaves-card _ _ (founded-good c g x (q .served)) refl
 
   -- a good PIN for a credential that is no key
   pin-valued : (w : Which) (d : List ℕ) → isKey (numberOf w) ≡ false → goodPin d ≡ true → Good (withValue w c d)

@@ -1,33 +1,39 @@
 -- The wrong cards answer a command of a card in use otherwise than the rules, by computation.
-use Prim.Native.Nat.{ℕ}
+use Prim.Native.Nat.{ℕ, zero, suc}
 use mathlib.Core.List.{List, [], _∷_}
 use mathlib.Core.Bool.{true}
-use mathlib.Core.Path.{_≡_, refl, sym, ap, _∙_}
+use mathlib.Core.Path.{_≡_, refl, sym, ap, subst, _∙_}
 use native.Mathlib.Omega.{arith}
-use lib.ListN.{length}
-use Rattle.files.specs.Words.{allBelow}
+use lib.ListN.{length, drop}
+use Rattle.cipher.specs.Cipher.{lastRound, cipher, aes128}
+use Rattle.files.specs.Words.{allBelow, seek}
 use Rattle.files.specs.Part.{part, splice, over, zeros}
 use Rattle.files.specs.Types.{count, recordLength, size, goodShape}
-use Rattle.files.specs.Directory.{used, startAt}
-use Rattle.files.specs.Record.{soundHeld}
-use Rattle.files.specs.Create.{areaSize}
-use Rattle.files.specs.Sound.{soundFile, unusedPlace, sfisDiffer, soundDirectory, partedArea}
+use Rattle.files.specs.Rights.{allHeld, allowed, goodRights}
+use Rattle.files.specs.Directory.{used, startAt, findFid, findSfi, findFolder}
+use Rattle.files.specs.Record.{bytesUsed, soundHeld, soundUsed, partedFile}
+use Rattle.files.specs.Create.{areaSize, goodContents, apart, nameUnused, room, created, goodFolder, fidUnused, founded}
+use Rattle.files.specs.Sound.{soundFile, unusedPlace, sfisDiffer, unusedFolder, soundFolder, soundFolders, soundDirectory, partedArea}
+use Rattle.rules.specs.declared.Answer.{Answer}
 use Rattle.rules.specs.Words.{orElse, allOf, same, byte}
-use Rattle.rules.specs.State.{user, forEach, numberOf, Login, login, challenge, waiting}
-use Rattle.rules.specs.Sound.{goodMode, goodPin, goodValue, soundValue, soundTries, soundCredential, soundChallenge, soundResponse, soundState, sound}
+use Rattle.rules.specs.State.{user, forEach, numberOf, Login, login, challenge, waiting, withRights}
+use Rattle.rules.specs.Sound.{goodMode, goodPin, goodValue, soundValue, soundTries, soundCredential, soundChallenge, soundResponse, soundCurrent, soundState, sound}
 use Rattle.rules.specs.Frame.{caseOf, framed}
 use Rattle.rules.specs.List.{rows, find, listed, rule}
 use Rattle.rules.specs.Select.{selectChecks}
+use Rattle.rules.specs.Binary.{target, readCount, readBinaryChecks}
+use Rattle.rules.specs.Create.{fileGiven, folderGiven, goodFolderGiven, creationRight, createChecks}
 use Rattle.rules.specs.Pins.{comparedAt, verifyChecks}
-use Rattle.rules.specs.Device.{getChallengeChecks}
+use Rattle.rules.specs.Device.{authenticateChecks, getChallengeChecks}
 use Rattle.rules.specs.Response.{waitSw, getResponseChecks, fetches}
 use Rattle.rules.specs.Step.{checks, effectOf, outcome, settled, atOnce, fetched, step}
-use Rattle.rules.specs.Calls.{Done, Order, replySize, command, goodOrder, issue}
+use Rattle.rules.specs.Calls.{Done, Order, replySize, command, reset, goodOrder, fresh, issue}
+use Rattle.rules.proofs.Equal.{equal-same}
 use Rattle.rules.proofs.Good.{numbered}
 use Rattle.demands.specs.Ledger.{Event, sent, Page}
-use Rattle.demands.specs.Run.{World, run, after}
+use Rattle.demands.specs.Run.{World, world, run, Served, after}
 use Rattle.demands.specs.Follows.{Agrees}
-use Rattle.demands.specs.WrongCards.{Box, Fails, dropsAtRefusal, keepsWaiting, saysNothingWaits, dropsChallenge, DropsAtRefusal, KeepsWaiting, SaysNothingWaits, DropsChallenge, refusesAll, onlySays, neverAlters, obeysOnce, FailsNotMeets, RefusesAll, OnlySays, NeverAlters, ObeysOnce, RulesMeet, MadeUpBreaks}
+use Rattle.demands.specs.WrongCards.{Box, Fails, dropsAtRefusal, keepsWaiting, saysNothingWaits, dropsChallenge, entersNew, keepsFile, looksInRoot, staysInside, EntersNew, KeepsFile, LooksInRoot, StaysInside, DropsAtRefusal, KeepsWaiting, SaysNothingWaits, DropsChallenge, refusesAll, onlySays, neverAlters, obeysOnce, FailsNotMeets, RefusesAll, OnlySays, NeverAlters, ObeysOnce, RulesMeet, MadeUpBreaks}
 use Rattle.demands.proofs.Live.{after-live}
 use Rattle.demands.proofs.Follows.{login-set, full}
 use Rattle.demands.proofs.Bound.{credentials-follow}
@@ -38,7 +44,7 @@ fails-not-meets box f m = f .differs (m (f .before) _ _ (f .cmd) (f .random) (f 
 pub rules-meet : RulesMeet
 rules-meet before c area cmd random reply = refl
 
--- the order of the example script, in a mode
+-- the order of the example script, in a mode, with a key of 00
 unfoldable order : ℕ → Order
 order m = record {
   given =
@@ -48,18 +54,16 @@ order m = record {
   mode = m;
 }
 
--- a wrong user PIN, and a query
-unfoldable wrong-pin : List ℕ
-wrong-pin = 0x00 ∷ 0x20 ∷ 0x00 ∷ 0x01 ∷ 0x06 ∷ 0x31 ∷ 0x31 ∷ 0x31 ∷ 0x31 ∷ 0x31 ∷ 0x31 ∷ []
-
-unfoldable get-challenge : List ℕ
-get-challenge = 0x00 ∷ 0x84 ∷ 0x00 ∷ 0x00 ∷ 0x04 ∷ []
-
 abbrev in-use : ℕ → List Event → World
 in-use m before = after (order m) (zeros areaSize) before
 
 abbrev answered : ℕ → List Event → List ℕ → Done
 answered m before cmd = command (in-use m before .card) (in-use m before .area) cmd (zeros 16) (zeros replySize)
+
+-- commands in a row
+abbrev calls : List (List ℕ) → List Event
+calls [] = []
+calls (cmd ∷ more) = sent cmd (zeros 16) (zeros replySize) ∷ calls more
 
 -- a number of the answer by which a box differs
 module _ (m : ℕ) (good : goodMode m ≡ true) where
@@ -77,26 +81,85 @@ module _ (m : ℕ) (good : goodMode m ≡ true) where
     differs = λ e. n (sym q ∙ ap see e ∙ p);
   }
 
+  -- where the card in use is known
+  fails-on : (box : Box) (before : List Event) (w : World) → in-use m before ≡ w → (cmd : List ℕ) (see : Done → ℕ) (x y : ℕ)
+      → see (command (w .card) (w .area) cmd (zeros 16) (zeros replySize)) ≡ x
+      → see (box before (w .card) (w .area) cmd (zeros 16) (zeros replySize)) ≡ y → (y ≡ x → ⊥) → Fails box
+  fails-on box before w e cmd see x y p q n =
+      fails-at box before cmd see x y (subst (λ (v : World). see (command (v .card) (v .area) cmd (zeros 16) (zeros replySize)) ≡ x) (sym e) p)
+      (subst (λ (v : World). see (box before (v .card) (v .area) cmd (zeros 16) (zeros replySize)) ≡ y) (sym e) q) n
+
+-- the order is served
+order-served : Served (order 0) (zeros areaSize)
+unfolding issue goodOrder goodValue goodPin allOf order
+order-served = refl
+
+-- a wrong user PIN, and a query; a challenge of four bytes 00; its cryptogram, which logs the device in
+unfoldable wrong-pin : List ℕ
+wrong-pin = 0x00 ∷ 0x20 ∷ 0x00 ∷ 0x01 ∷ 0x06 ∷ 0x31 ∷ 0x31 ∷ 0x31 ∷ 0x31 ∷ 0x31 ∷ 0x31 ∷ []
+
+unfoldable query : List ℕ
+query = 0x00 ∷ 0x20 ∷ 0x00 ∷ 0x01 ∷ []
+
+unfoldable get-challenge : List ℕ
+get-challenge = 0x00 ∷ 0x84 ∷ 0x00 ∷ 0x00 ∷ 0x04 ∷ []
+
+-- it is written byte by byte, so that its length is known without the cipher being computed
+unfoldable first-bytes : ℕ → List ℕ → List ℕ
+first-bytes zero s = []
+first-bytes (suc n) s = byte s 0 ∷ first-bytes n (drop 1 s)
+
+unfoldable log-in : List ℕ
+log-in = 0x00 ∷ 0x82 ∷ 0x00 ∷ 0x00 ∷ 0x10 ∷ first-bytes 16 (aes128 (zeros 16) (zeros 16))
+
+-- GET RESPONSE for five bytes, and for four
+unfoldable asks-five : List ℕ
+asks-five = 0x00 ∷ 0xC0 ∷ 0x00 ∷ 0x00 ∷ 0x05 ∷ []
+
+unfoldable asks-four : List ℕ
+asks-four = 0x00 ∷ 0xC0 ∷ 0x00 ∷ 0x00 ∷ 0x04 ∷ []
+
+-- a binary file 2002 of one byte is made, and a directory 5101; the root is selected, and the directory; the file is read by its SFI
+unfoldable make-file : List ℕ
+make-file = 0x80 ∷ 0xE0 ∷ 0x20 ∷ 0x02 ∷ 0x05 ∷ 0x28 ∷ 0x00 ∷ 0x01 ∷ 0x00 ∷ 0x00 ∷ []
+
+unfoldable make-directory : List ℕ
+make-directory = 0x80 ∷ 0xE0 ∷ 0x51 ∷ 0x01 ∷ 0x05 ∷ 0x38 ∷ 0x00 ∷ 0x00 ∷ 0x00 ∷ 0x00 ∷ []
+
+unfoldable select-root : List ℕ
+select-root = 0x00 ∷ 0xA4 ∷ 0x00 ∷ 0x00 ∷ 0x02 ∷ 0x3F ∷ 0x00 ∷ []
+
+unfoldable select-directory : List ℕ
+select-directory = 0x00 ∷ 0xA4 ∷ 0x00 ∷ 0x00 ∷ 0x02 ∷ 0x51 ∷ 0x01 ∷ []
+
+unfoldable read-file : List ℕ
+read-file = 0x00 ∷ 0xB0 ∷ 0x82 ∷ 0x00 ∷ 0x01 ∷ []
+
+-- a card in use, by computation: to unfold this is to unfold all that these commands need, the cipher apart
+computed : ℕ → List Event → World
+unfolding order wrong-pin query get-challenge first-bytes log-in asks-five asks-four make-file make-directory select-root select-directory read-file after run issue goodOrder goodValue goodPin allOf command sound soundState partedArea soundValue soundTries soundCredential soundChallenge soundResponse soundDirectory soundFile unusedPlace sfisDiffer soundFolders soundFolder unusedFolder soundCurrent soundHeld goodShape count recordLength size used startAt allBelow over part splice orElse caseOf framed rows find listed rule checks effectOf outcome settled atOnce fetches step getChallengeChecks same verifyChecks comparedAt fetched getResponseChecks waitSw selectChecks seek findFid findFolder authenticateChecks allowed allHeld goodRights goodContents goodFolder goodFolderGiven findSfi fidUnused nameUnused apart room created founded fileGiven folderGiven creationRight createChecks target readCount readBinaryChecks soundUsed bytesUsed partedFile
+computed m before = in-use m before
+
 -- a challenge has data
 challenge-length : answered 0 [] get-challenge .answer .n ≡ 6
-unfolding after run issue goodOrder goodValue goodPin allOf order get-challenge command sound soundState partedArea soundValue soundTries soundCredential soundChallenge soundResponse soundDirectory soundFile unusedPlace sfisDiffer soundHeld goodShape count recordLength size used startAt allBelow over part splice orElse caseOf framed rows find listed rule checks effectOf outcome settled atOnce fetches step getChallengeChecks
+unfolding computed
 challenge-length = refl
 
 -- a wrong PIN costs a try, and is answered 63 and a count
 tries-after : login user (answered 0 [] wrong-pin .answer .card) .tries .left ≡ 2
-unfolding after run issue goodOrder goodValue goodPin allOf same order wrong-pin command sound soundState partedArea soundValue soundTries soundCredential soundChallenge soundResponse soundDirectory soundFile unusedPlace sfisDiffer soundHeld goodShape count recordLength size used startAt allBelow over part splice orElse caseOf framed rows find listed rule checks effectOf outcome settled atOnce fetches step verifyChecks comparedAt
+unfolding computed
 tries-after = refl
 
 tries-before : login user (in-use 0 [] .card) .tries .left ≡ 3
-unfolding after run issue goodOrder goodValue goodPin allOf order
+unfolding computed
 tries-before = refl
 
 -- the second command
 once : List Event
-once = sent get-challenge (zeros 16) (zeros replySize) ∷ []
+once = calls (get-challenge ∷ [])
 
 second-answer : byte (answered 0 once wrong-pin .reply) 0 ≡ 0x63
-unfolding once after run issue goodOrder goodValue goodPin allOf same order wrong-pin get-challenge command sound soundState partedArea soundValue soundTries soundCredential soundChallenge soundResponse soundDirectory soundFile unusedPlace sfisDiffer soundHeld goodShape count recordLength size used startAt allBelow over part splice orElse caseOf framed rows find listed rule checks effectOf outcome settled atOnce fetches step verifyChecks comparedAt getChallengeChecks
+unfolding once computed
 second-answer = refl
 
 pub refuses-all : RefusesAll
@@ -113,37 +176,98 @@ pub obeys-once : ObeysOnce
 unfolding once over
 obeys-once = fails-at 0 refl obeysOnce once wrong-pin (λ d. byte (d .reply) 0) 0x63 0x90 second-answer refl (λ e. absurd (omega arith))
 
--- in mode 1, where the four bytes of a challenge wait: five of them, all four, another command without data, and one that ends 9000
-unfoldable asks-five : List ℕ
-asks-five = 0x00 ∷ 0xC0 ∷ 0x00 ∷ 0x00 ∷ 0x05 ∷ []
-
-unfoldable asks-four : List ℕ
-asks-four = 0x00 ∷ 0xC0 ∷ 0x00 ∷ 0x00 ∷ 0x04 ∷ []
-
-unfoldable query : List ℕ
-query = 0x00 ∷ 0x20 ∷ 0x00 ∷ 0x01 ∷ []
-
-unfoldable select-root : List ℕ
-select-root = 0x00 ∷ 0xA4 ∷ 0x00 ∷ 0x00 ∷ 0x02 ∷ 0x3F ∷ 0x00 ∷ []
-
+-- in mode 1, where the four bytes of a challenge wait: five of them, another command without data, one that ends 9000, and all four
 abbrev how-many : Done → ℕ
 how-many d = length (waiting (d .answer .card))
 
 pub drops-at-refusal : DropsAtRefusal
-unfolding once after run issue goodOrder goodValue goodPin allOf order get-challenge command sound soundState partedArea soundValue soundTries soundCredential soundChallenge soundResponse soundDirectory soundFile unusedPlace sfisDiffer soundHeld goodShape count recordLength size used startAt allBelow over part splice orElse caseOf framed rows find listed rule checks effectOf outcome settled atOnce fetches step getChallengeChecks fetched getResponseChecks waitSw asks-five asks-four query select-root verifyChecks selectChecks
+unfolding once computed
 drops-at-refusal = fails-at 1 refl dropsAtRefusal once asks-five how-many 4 0 refl refl (λ e. absurd (omega arith))
 
 pub keeps-waiting : KeepsWaiting
-unfolding once after run issue goodOrder goodValue goodPin allOf order get-challenge command sound soundState partedArea soundValue soundTries soundCredential soundChallenge soundResponse soundDirectory soundFile unusedPlace sfisDiffer soundHeld goodShape count recordLength size used startAt allBelow over part splice orElse caseOf framed rows find listed rule checks effectOf outcome settled atOnce fetches step getChallengeChecks fetched getResponseChecks waitSw asks-five asks-four query select-root verifyChecks selectChecks
+unfolding once computed
 keeps-waiting = fails-at 1 refl keepsWaiting once query how-many 0 4 refl refl (λ e. absurd (omega arith))
 
 pub says-nothing-waits : SaysNothingWaits
-unfolding once after run issue goodOrder goodValue goodPin allOf order get-challenge command sound soundState partedArea soundValue soundTries soundCredential soundChallenge soundResponse soundDirectory soundFile unusedPlace sfisDiffer soundHeld goodShape count recordLength size used startAt allBelow over part splice orElse caseOf framed rows find listed rule checks effectOf outcome settled atOnce fetches step getChallengeChecks fetched getResponseChecks waitSw asks-five asks-four query select-root verifyChecks selectChecks
+unfolding once computed
 says-nothing-waits = fails-at 1 refl saysNothingWaits once select-root (λ d. byte (d .reply) 0) 0x90 0x61 refl refl (λ e. absurd (omega arith))
 
 pub drops-challenge : DropsChallenge
-unfolding once after run issue goodOrder goodValue goodPin allOf order get-challenge command sound soundState partedArea soundValue soundTries soundCredential soundChallenge soundResponse soundDirectory soundFile unusedPlace sfisDiffer soundHeld goodShape count recordLength size used startAt allBelow over part splice orElse caseOf framed rows find listed rule checks effectOf outcome settled atOnce fetches step getChallengeChecks fetched getResponseChecks waitSw asks-five asks-four query select-root verifyChecks selectChecks
+unfolding once computed
 drops-challenge = fails-at 1 refl dropsChallenge once asks-four (λ d. length (challenge (d .answer .card))) 4 0 refl refl (λ e. absurd (omega arith))
+
+-- where the device right is held
+all-bytes : (s : List ℕ) → first-bytes (length s) s ≡ s
+unfolding first-bytes
+all-bytes [] = refl
+all-bytes (x ∷ s) = ap (λ (z : List ℕ). x ∷ z) (all-bytes s)
+
+sixteen : (key block : List ℕ) → length (aes128 key block) ≡ 16
+unfolding aes128 cipher lastRound
+sixteen key block = refl
+
+accepted : same (aes128 (zeros 16) (zeros 16)) (first-bytes 16 (aes128 (zeros 16) (zeros 16))) ≡ true
+accepted =
+    let c = aes128 (zeros 16) (zeros 16) in
+    equal-same c (first-bytes 16 c) (sym (ap (λ n. first-bytes n c) (sym (sixteen (zeros 16) (zeros 16))) ∙ all-bytes c))
+
+abbrev logged-in : World
+logged-in = world (withRights (fresh (order 0)) (1 ∷ 0 ∷ 0 ∷ [])) (zeros areaSize)
+
+logged : in-use 0 (calls (get-challenge ∷ log-in ∷ [])) ≡ logged-in
+unfolding computed
+logged = rw accepted
+
+then : (more : List (List ℕ)) → in-use 0 (calls (get-challenge ∷ log-in ∷ more)) ≡ run logged-in (calls more)
+unfolding after run
+then more = ap (λ (w : World). run w (calls more)) logged
+
+pub enters-new : EntersNew
+unfolding computed
+enters-new =
+    fails-on 0 refl entersNew (calls (get-challenge ∷ log-in ∷ [])) logged-in logged make-directory (λ d. d .answer .card .session .folder) 0 1 refl refl
+    (λ e. absurd (omega arith))
+
+-- the same after a file is made, and after a directory besides, which is selected
+pub keeps-file : KeepsFile
+unfolding computed
+keeps-file =
+    fails-on 0 refl keepsFile (calls (get-challenge ∷ log-in ∷ make-file ∷ [])) (run logged-in (calls (make-file ∷ []))) (then (make-file ∷ [])) select-root
+    (λ d. d .answer .card .session .current) 0 1 refl refl (λ e. absurd (omega arith))
+
+pub looks-in-root : LooksInRoot
+unfolding computed
+looks-in-root =
+    fails-on 0 refl looksInRoot (calls (get-challenge ∷ log-in ∷ make-file ∷ make-directory ∷ select-directory ∷ []))
+    (run logged-in (calls (make-file ∷ make-directory ∷ select-directory ∷ []))) (then (make-file ∷ make-directory ∷ select-directory ∷ [])) read-file
+    (λ d. d .answer .n) 2 3 refl refl (λ e. absurd (omega arith))
+
+-- the folder that is current after a reset
+abbrev inside-of : Answer → ℕ
+inside-of a = a .card .session .folder
+
+in-directory : World
+unfolding computed
+in-directory = run logged-in (calls (make-directory ∷ select-directory ∷ []))
+
+returns : inside-of (reset (in-directory .card) (in-directory .area)) ≡ 0
+unfolding computed in-directory reset
+returns = refl
+
+stays : inside-of (staysInside (in-directory .card) (in-directory .area)) ≡ 1
+unfolding computed in-directory reset
+stays = refl
+
+pub stays-inside : StaysInside
+unfolding in-directory
+stays-inside = record {
+  order = order 0;
+  area = zeros areaSize;
+  before = calls (get-challenge ∷ log-in ∷ make-directory ∷ select-directory ∷ []);
+  is-served = order-served;
+  differs = subst (λ (w : World). staysInside (w .card) (w .area) ≡ reset (w .card) (w .area) → ⊥) (sym (then (make-directory ∷ select-directory ∷ [])))
+      (λ e. let q : 1 ≡ 0 = sym stays ∙ ap inside-of e ∙ returns in absurd (omega (arith, q)));
+}
 
 -- two counts that agree with one page are equal
 one-count : (x y : Login) (p : Page) → Agrees x p → Agrees y p → x .tries .left ≡ y .tries .left

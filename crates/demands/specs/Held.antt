@@ -6,13 +6,14 @@ use mathlib.Core.Path.{_≡_}
 use lib.Dec.{eqb, leb}
 use lib.ListN.{take, drop, getD}
 use Rattle.files.specs.declared.File.{File}
-use Rattle.files.specs.State.{blankFile}
+use Rattle.files.specs.declared.Folder.{Folder}
+use Rattle.files.specs.State.{blankFile, blankFolder}
 use Rattle.files.specs.Listed.{tab}
 use Rattle.rules.specs.declared.Card.{Card}
 use Rattle.rules.specs.declared.Credential.{Credential}
-use Rattle.rules.specs.State.{Which, numberOf, forEach, noCredential}
+use Rattle.rules.specs.State.{Which, device, numberOf, forEach, noCredential}
 use Rattle.rules.specs.Frame.{Command}
-use Rattle.demands.specs.Ledger.{Label, sfiOf, sizeOf}
+use Rattle.demands.specs.Ledger.{Label, Tag, sfiOf, sizeOf}
 
 -- ---- files
 -- file n, counted from 1 in the order made
@@ -23,9 +24,10 @@ pub record IsFile (c : Card) (n : ℕ) : Type 0 where
   pub first : 1 ≤ n
   pub last : n ≤ c .directory .count
 
--- what it is for good: FID, type, two size bytes, read and write right, as its CREATE FILE gave them
+-- what it is for good: its directory, FID, type, two size bytes, read and write right, as its CREATE FILE gave them
 abbrev pub labelOf : File → Label
-labelOf f = record { fid1 = f .fid1; fid2 = f .fid2; kind = f .kind; size1 = f .size1; size2 = f .size2; read = f .read; write = f .write }
+labelOf f =
+    record { within = f .folder; fid1 = f .fid1; fid2 = f .fid2; kind = f .kind; size1 = f .size1; size2 = f .size2; read = f .read; write = f .write }
 
 abbrev pub labelNo : Card → ℕ → Label
 labelNo c n = labelOf (fileNo c n)
@@ -42,9 +44,31 @@ startNo c n = sizeOfFirst (c .directory .files) (n - 1)
 abbrev pub bytesNo : Card → List ℕ → ℕ → List ℕ
 bytesNo c area n = take (sizeOf (labelNo c n)) (drop (startNo c n) area)
 
--- the file that a command names: the one that has the SFI, or for 0 the current one
+-- ---- directories (R-7), which the state calls folders
+-- directory n, counted from 1 in the order made; 0 stands for the root, of a file and of the session
+abbrev pub folderNo : Card → ℕ → Folder
+folderNo c n = getD (c .directory .folders) (n - 1) blankFolder
+
+pub record IsFolder (c : Card) (n : ℕ) : Type 0 where
+  pub first : 1 ≤ n
+  pub last : n ≤ c .directory .number
+
+-- what it is for good: FID and creation right; it has no SFI
+abbrev pub tagOf : Folder → Tag
+tagOf x = record { fid1 = x .fid1; fid2 = x .fid2; create = x .right }
+
+abbrev pub tagNo : Card → ℕ → Tag
+tagNo c n = tagOf (folderNo c n)
+
+-- a file that lies in this directory
+pub record Within (c : Card) (folder n : ℕ) : Type 0 where
+  pub there : IsFile c n
+  pub lies : fileNo c n .folder ≡ folder
+
+-- the file that a command names, which lies in the current directory: the one that has the SFI, or for 0 the current one
 pub record Named (c : Card) (sfi n : ℕ) : Type 0 where
   pub there : IsFile c n
+  pub lies : fileNo c n .folder ≡ c .session .folder
   pub by-sfi : (sfi ≡ 0 → ⊥) → sfiOf (labelNo c n) ≡ sfi
   pub current : sfi ≡ 0 → c .session .current ≡ n
 
@@ -118,6 +142,11 @@ pub record Opens (held : Which → Type 0) (right : ℕ) : Type 0 where
   pub all : right / 2 % 2 ≡ 0 → (w : Which) → bitOf w right ≡ 1 → held w
   pub any : right / 2 % 2 ≡ 1 → OneHeld held right
   pub not-never : right ≡ 0x0F → ⊥
+
+-- what a CREATE FILE needs: in the root the device right, inside a directory what its creation right asks
+pub record MayCreate (held : Which → Type 0) (current create : ℕ) : Type 0 where
+  pub in-root : current ≡ 0 → held device
+  pub inside : (current ≡ 0 → ⊥) → Opens held create
 
 -- held on the card
 abbrev pub heldOn : Card → Which → Type 0

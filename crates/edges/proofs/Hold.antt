@@ -9,17 +9,17 @@ use Rattle.cipher.specs.SubBytes.{square, squares, inverse, sbox}
 use Rattle.cipher.specs.MixColumns.{mixColumn}
 use Rattle.cipher.specs.KeyExpansion.{expanded, keyExpansion}
 use Rattle.cipher.specs.Cipher.{roundKey, fullRound, lastRound, rounds, cipher, aes128}
-use Rattle.files.specs.Words.{allBelow}
+use Rattle.files.specs.Words.{allBelow, seek}
 use Rattle.files.specs.Part.{part, splice, over}
 use Rattle.files.specs.Types.{count, recordLength, size, goodShape}
 use Rattle.files.specs.Rights.{allHeld, anyHeld, allowed, goodRights}
-use Rattle.files.specs.Directory.{used, startAt, extent, isPlace, inArea, seek, findFid, findSfi}
+use Rattle.files.specs.Directory.{used, startAt, extent, isPlace, inArea, findFid, findSfi, findFolder}
 use Rattle.files.specs.Record.{back, next, bytesUsed, placesHeld, placeOf, recordsHeld, startOf, lengthOf, located, locatedIn, nextPlace, nextStart, entry, appended, soundHeld, soundUsed, partedFile, isRecord, hasRoom}
 use Rattle.files.specs.Walk.{stands, past, walk, parted, standing}
-use Rattle.files.specs.Create.{goodContents, sfiUnused, room, created}
-use Rattle.files.specs.Sound.{soundFile, unusedPlace, sfisDiffer, soundDirectory, partedArea}
+use Rattle.files.specs.Create.{goodContents, apart, nameUnused, room, created, goodFolder, fidUnused, founded}
+use Rattle.files.specs.Sound.{soundFile, unusedPlace, sfisDiffer, unusedFolder, soundFolder, soundFolders, soundDirectory, partedArea}
 use Rattle.rules.specs.Words.{orElse, allOf, same}
-use Rattle.rules.specs.Sound.{goodPin, goodValue, soundValue, soundTries, soundCredential, soundChallenge, soundResponse, soundState, sound}
+use Rattle.rules.specs.Sound.{goodPin, goodValue, soundValue, soundTries, soundCredential, soundChallenge, soundResponse, soundCurrent, soundState, sound}
 use Rattle.rules.specs.Frame.{caseOf, framed}
 use Rattle.rules.specs.List.{rows, find, listed, rule}
 use Rattle.rules.specs.Select.{selectChecks}
@@ -27,7 +27,7 @@ use Rattle.rules.specs.Binary.{target, readCount, readBinaryChecks, updateBinar
 use Rattle.rules.specs.Record.{recordFound, readRecordChecks, updateRecordChecks, appendChecks}
 use Rattle.rules.specs.Pins.{comparedAt, verifyChecks, changeChecks, reloadChecks}
 use Rattle.rules.specs.Device.{authenticateChecks, getChallengeChecks}
-use Rattle.rules.specs.Create.{fileGiven, createChecks}
+use Rattle.rules.specs.Create.{fileGiven, folderGiven, goodFolderGiven, creationRight, createChecks}
 use Rattle.rules.specs.Response.{waitSw, getResponseChecks, fetches}
 use Rattle.rules.specs.Step.{checks, effectOf, outcome, settled, atOnce, fetched, step}
 use Rattle.rules.specs.Calls.{command, reset, goodOrder, issue}
@@ -44,6 +44,7 @@ use Rattle.edges.specs.Device.{devices}
 use Rattle.edges.specs.Create.{creating}
 use Rattle.edges.specs.Calls.{calls}
 use Rattle.edges.specs.Sound.{credentials, directories, sessions}
+use Rattle.edges.specs.Folders.{folders, folder-states}
 use Rattle.edges.specs.Response.{fetching, discarding, modes, responses, login-fetched}
 use Rattle.edges.specs.Login.{login}
 use Rattle.edges.specs.FrameRanges.{class-bytes, ins-bytes, frame-lengths}
@@ -53,11 +54,12 @@ use Rattle.edges.specs.RightsRanges.{rights-created, rights-asked}
 use Rattle.edges.specs.PinRanges.{pin-digits, pin-tries, orders, staying}
 use Rattle.edges.specs.LoginRanges.{cryptograms, login-of-4, login-of-8}
 use Rattle.edges.specs.ResponseRanges.{response-bytes, issue-modes}
+use Rattle.edges.specs.FolderRanges.{types-created, fids-created, creation-rights, creation-asked, folder-bytes}
 use Rattle.edges.specs.Edges.{edges, EachHolds}
 
 -- whether rows hold, by computation: to unfold this is to unfold every rule that a row may need
 computed : List Edge → Bool
-unfolding xPower square squares inverse sbox mixColumn expanded keyExpansion roundKey fullRound lastRound rounds cipher aes128 allBelow part splice over count recordLength size goodShape allHeld anyHeld allowed goodRights used startAt extent isPlace inArea seek findFid findSfi back next bytesUsed placesHeld placeOf recordsHeld startOf lengthOf located locatedIn nextPlace nextStart entry appended soundHeld soundUsed partedFile isRecord hasRoom stands past walk parted standing goodContents sfiUnused room created soundFile unusedPlace sfisDiffer soundDirectory partedArea orElse allOf same goodPin goodValue soundValue soundTries soundCredential soundChallenge soundResponse soundState sound caseOf framed rows find listed rule selectChecks target readCount readBinaryChecks updateBinaryChecks recordFound readRecordChecks updateRecordChecks appendChecks comparedAt verifyChecks changeChecks reloadChecks authenticateChecks getChallengeChecks fileGiven createChecks waitSw getResponseChecks fetches checks effectOf outcome settled atOnce fetched step command reset goodOrder issue
+unfolding xPower square squares inverse sbox mixColumn expanded keyExpansion roundKey fullRound lastRound rounds cipher aes128 allBelow part splice over count recordLength size goodShape allHeld anyHeld allowed goodRights used startAt extent isPlace inArea seek findFid findSfi findFolder back next bytesUsed placesHeld placeOf recordsHeld startOf lengthOf located locatedIn nextPlace nextStart entry appended soundHeld soundUsed partedFile isRecord hasRoom stands past walk parted standing goodContents apart nameUnused room created goodFolder fidUnused founded soundFile unusedPlace sfisDiffer unusedFolder soundFolder soundFolders soundDirectory partedArea orElse allOf same goodPin goodValue soundValue soundTries soundCredential soundChallenge soundResponse soundCurrent soundState sound caseOf framed rows find listed rule selectChecks target readCount readBinaryChecks updateBinaryChecks recordFound readRecordChecks updateRecordChecks appendChecks comparedAt verifyChecks changeChecks reloadChecks authenticateChecks getChallengeChecks fileGiven folderGiven goodFolderGiven creationRight createChecks waitSw getResponseChecks fetches checks effectOf outcome settled atOnce fetched step command reset goodOrder issue
 computed = allHold
 
 pub starred-hold : allHold starred ≡ true
@@ -115,6 +117,14 @@ directories-hold = refl
 pub sessions-hold : allHold sessions ≡ true
 unfolding computed
 sessions-hold = refl
+
+pub folders-hold : allHold folders ≡ true
+unfolding computed
+folders-hold = refl
+
+pub folder-states-hold : allHold folder-states ≡ true
+unfolding computed
+folder-states-hold = refl
 
 pub fetching-hold : allHold fetching ≡ true
 unfolding computed
@@ -204,6 +214,26 @@ pub issue-modes-hold : allHold issue-modes ≡ true
 unfolding computed
 issue-modes-hold = refl
 
+pub types-created-hold : allHold types-created ≡ true
+unfolding computed
+types-created-hold = refl
+
+pub fids-created-hold : allHold fids-created ≡ true
+unfolding computed
+fids-created-hold = refl
+
+pub creation-rights-hold : allHold creation-rights ≡ true
+unfolding computed
+creation-rights-hold = refl
+
+pub creation-asked-hold : allHold creation-asked ≡ true
+unfolding computed
+creation-asked-hold = refl
+
+pub folder-bytes-hold : allHold folder-bytes ≡ true
+unfolding computed
+folder-bytes-hold = refl
+
 pub edges-hold : EachHolds edges
 edges-hold =
-    (starred-hold, (framing-hold, (selecting-hold, (binaries-hold, (recording-hold, (variables-hold, (holding-rights-hold, (pins-hold, (devices-hold, (creating-hold, (calls-hold, (credentials-hold, (directories-hold, (sessions-hold, (fetching-hold, (discarding-hold, (modes-hold, (responses-hold, (login-hold, (login-fetched-hold, (class-bytes-hold, (ins-bytes-hold, (frame-lengths-hold, (sfis-hold, (offsets-hold, (rights-created-hold, (rights-asked-hold, (pin-digits-hold, (pin-tries-hold, (orders-hold, (staying-hold, (cryptograms-hold, (login-of-4-hold, (login-of-8-hold, (response-bytes-hold, (issue-modes-hold, tt))))))))))))))))))))))))))))))))))))
+    (starred-hold, (framing-hold, (selecting-hold, (binaries-hold, (recording-hold, (variables-hold, (holding-rights-hold, (pins-hold, (devices-hold, (creating-hold, (calls-hold, (credentials-hold, (directories-hold, (sessions-hold, (folders-hold, (folder-states-hold, (fetching-hold, (discarding-hold, (modes-hold, (responses-hold, (login-hold, (login-fetched-hold, (class-bytes-hold, (ins-bytes-hold, (frame-lengths-hold, (sfis-hold, (offsets-hold, (rights-created-hold, (rights-asked-hold, (pin-digits-hold, (pin-tries-hold, (orders-hold, (staying-hold, (cryptograms-hold, (login-of-4-hold, (login-of-8-hold, (response-bytes-hold, (issue-modes-hold, (types-created-hold, (fids-created-hold, (creation-rights-hold, (creation-asked-hold, (folder-bytes-hold, tt)))))))))))))))))))))))))))))))))))))))))))

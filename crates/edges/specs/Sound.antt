@@ -1,5 +1,5 @@
 -- "A state is sound when all this holds": cards with one thing wrong, beside cards at the edge that are sound. That commands and resets refuse the
--- first by 4 and serve the others, `Unsound` shows.
+-- first by 4 and serve the others, `served` says.
 use Prim.Native.Nat.{ℕ}
 use mathlib.Core.Bool.{true, false}
 use mathlib.Core.List.{List, [], _∷_, _++_}
@@ -136,7 +136,7 @@ having fs = withDirectory (holder false false false) (add fs noFiles)
 
 -- a card whose places hold these, of which the first n count
 abbrev pub places : List File → ℕ → Card
-places fs n = withDirectory (holder false false false) (record { files = fs; count = n })
+places fs n = withDirectory (holder false false false) (record { files = fs; count = n; folders = noFiles .folders; number = 0 })
 
 -- one file, wrong in one thing
 abbrev pub bad-files : List Card
@@ -209,11 +209,11 @@ directories = bad-in 4097 bad-files ++ bad bad-places ++ good-in 4096 good-files
 -- a session with this current file and challenge
 abbrev pub session : ℕ → List ℕ → ℕ → Card
 session current challenge len =
-    withSession plain (record { rights = zeros 3; current = current; challenge = challenge; len = len })
+    withSession plain (record { rights = zeros 3; current = current; challenge = challenge; len = len; folder = 0 })
 
 -- rights kept so: device, admin, user
 abbrev pub keeps : List ℕ → Card
-keeps rights = withSession plain (record { rights = rights; current = 0; challenge = zeros 16; len = 0 })
+keeps rights = withSession plain (record { rights = rights; current = 0; challenge = zeros 16; len = 0; folder = 0 })
 
 -- the current file exists; the challenge is 4, 8 or 16 bytes or none, and bytes past it are 00
 abbrev pub bad-sessions : List Card

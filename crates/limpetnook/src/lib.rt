@@ -4,6 +4,7 @@ ghost use mathlib.Core.Path.{_≡_};
 ghost use Rattle.rules.specs.Calls.{issue, command, reset};
 ghost use Rattle.cipher.specs.Call.{Enciphered};
 ghost use Rattle.card.specs.Ordered.{orderOf};
+ghost use Rattle.texts.specs.Text.{new};
 ghost use Rattle.texts.specs.Calls.{toText, fromText};
 ghost use Rattle.limpetnook.specs.Place.{Placed, PlacesIssue, PlacesCommand, PlacesText, PlacesCard, cardSize, version};
 use card::issue::issue;
@@ -15,7 +16,7 @@ use texts::calls::from_text;
 use texts::calls::to_text;
 
 // No function of the language says how large a value is; the contract does.
-const CARD_SIZE: usize = 514;
+const CARD_SIZE: usize = 544;
 
 // The bytes that a card takes.
 #[no_mangle]
@@ -30,7 +31,7 @@ pub extern "C" fn limpet_card_size() -> usize
 pub extern "C" fn limpet_version() -> u32
     ensures { λ r. ⌜ r ≡ version ⌝ }
 {
-    8
+    9
 }
 
 // One block of AES-128.
@@ -105,7 +106,7 @@ pub extern "C" fn limpet_to_text(
     text: &mut [u8],
     count: &mut usize,
 ) -> u8
-    ensures { λ r. ⌜ PlacesText (now (card .entry)) (toText (now (card .entry)) (now (area .entry)) (now (text .entry))) r (now (card .exit)) (now (text .exit)) (now (count .exit)) ⌝ }
+    ensures { λ r. ⌜ PlacesText (now (card .entry)) (toText new (now (card .entry)) (now (area .entry)) (now (text .entry))) r (now (card .exit)) (now (text .exit)) (now (count .exit)) ⌝ }
 {
     let done = to_text(*card, area, text);
     *count = done.n;
@@ -115,7 +116,7 @@ pub extern "C" fn limpet_to_text(
 // The card before it does not matter; a text that is refused leaves a blank one.
 #[no_mangle]
 pub extern "C" fn limpet_from_text(card: &mut Card, area: &mut [u8], text: &[u8]) -> u8
-    ensures { λ r. ⌜ PlacesCard (fromText (now (text .entry)) (now (area .entry))) r (now (card .exit)) (now (area .exit)) ⌝ }
+    ensures { λ r. ⌜ PlacesCard (fromText new (now (text .entry)) (now (area .entry))) r (now (card .exit)) (now (area .exit)) ⌝ }
 {
     let read = from_text(area, text);
     *card = read.card;

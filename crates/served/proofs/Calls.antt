@@ -77,6 +77,7 @@ reset-answers c area =
       count-is = refl;
       no-rights = λ n. zero-at n howMany;
       none-current = refl;
+      in-root = refl;
       no-challenge = record { length-is = refl; bytes-are = refl };
       none-wait = waits-back (mode c) [];
       credentials-are = refl;
@@ -144,7 +145,9 @@ issue-answers o area =
       limits-are = λ w. ap (λ (x : Credential). x .tries .limit) (is-fresh o w);
       no-rights = λ n. zero-at n howMany;
       no-files = refl;
+      no-directories = refl;
       none-current = refl;
+      in-root = refl;
       no-challenge = record { length-is = refl; bytes-are = refl };
       mode-is = refl;
       none-wait = waits-back (o .mode) [];

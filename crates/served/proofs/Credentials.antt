@@ -83,6 +83,7 @@ pin-number k l =
 -- credential n of a card is then this, and all else is as it was
 record Put (c x : Card) (n : ℕ) (value : List ℕ) (left right : ℕ) : Type 0 where
   directory-is : x .directory ≡ c .directory
+  folder-is : x .session .folder ≡ c .session .folder
   current-is : x .session .current ≡ c .session .current
   value-is : valueNo x n ≡ value
   left-is : leftNo x n ≡ left
@@ -102,6 +103,7 @@ credited c area sw n x value left right s q w = record {
   others = λ m o. (rw (q .credentials-are) (w .others m o .0), rw (q .rights-are) (w .others m o .1));
   directory-is = q .directory-is ∙ w .directory-is;
   area-is = q .area-is;
+  folder-is = q .folder-is ∙ w .folder-is;
   current-is = q .current-is ∙ w .current-is;
   challenge-is = q .challenge-is;
 }
@@ -119,6 +121,7 @@ module _ (c : Card) (g : Good c) (n : ℕ) (low : n < 3) where
       let same = getD-set-same (c .credentials) n (withTries (credential c n) t) noCredential in-credentials in
       record {
         directory-is = refl;
+        folder-is = refl;
         current-is = refl;
         value-is = ap (λ (x : Credential). take (x .len) (x .value)) same;
         left-is = ap (λ (x : Credential). x .tries .left) same;
@@ -133,6 +136,7 @@ module _ (c : Card) (g : Good c) (n : ℕ) (low : n < 3) where
       let same = getD-set-same (c .credentials) n (credentialOf d (credential c n .tries)) noCredential in-credentials in
       record {
         directory-is = refl;
+        folder-is = refl;
         current-is = refl;
         value-is = ap (λ (x : Credential). take (x .len) (x .value)) same ∙ filled-back d;
         left-is = ap (λ (x : Credential). x .tries .left) same;
@@ -149,6 +153,7 @@ module _ (c : Card) (g : Good c) (n : ℕ) (low : n < 3) where
       let same = getD-set-same (set (c .credentials) n v) n (withTries (getD (set (c .credentials) n v) n noCredential) t) noCredential (rw (length-set (c .credentials) n v) in-credentials) in
       record {
         directory-is = refl;
+        folder-is = refl;
         current-is = refl;
         value-is = ap (λ (x : Credential). take (x .len) (x .value)) same ∙ ap (λ (x : Credential). take (x .len) (x .value)) first-set ∙ filled-back d;
         left-is = ap (λ (x : Credential). x .tries .left) same;

@@ -28,7 +28,6 @@ use Rattle.demands.specs.Framing.{NamedBy, Sent}
 use Rattle.demands.specs.Held.{fileNo, bytesNo, Named, Opens, heldOn, binarySfi, recordSfi}
 use Rattle.demands.specs.Files.{Addresses, ReadsFrom}
 use Rattle.demands.proofs.Framing.{listed-by-bytes}
-use Rattle.served.specs.Answers as answers
 use Rattle.served.specs.One.{SameAnswer}
 use Rattle.served.specs.Hidden.{BytesHidden, ResetHidden}
 use Rattle.served.proofs.Frames.{some-data}

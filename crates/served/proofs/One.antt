@@ -1,6 +1,6 @@
 -- No second answer: each condition is decided, by the test that the rules have for it, and each effect says one thing.
 use Prim.Native.Nat.{ℕ, _+_, _-_, _*_, _%_, _≤_, _<_, min}
-use mathlib.Core.Bool.{Bool, true, false, _&&_, _||_}
+use mathlib.Core.Bool.{Bool, true, false, _&&_, _||_, not}
 use mathlib.Core.List.{List, [], _∷_, List-discrete}
 use mathlib.Core.Logic.{_⊎_, inl, inr, ⊎-elim, by-cases}
 use mathlib.Core.Path.{_≡_, refl, sym, _∙_, subst, ap}
@@ -12,10 +12,10 @@ use borrow.Author.Tests.{eqb-true, eq-eqb, leb-true, le-leb, ltb-true, lt-ltb}
 use Rattle.files.specs.declared.File.{File}
 use Rattle.files.specs.Words.{isZero}
 use Rattle.files.specs.Types.{hasRecords}
-use Rattle.files.specs.Directory.{goodSfi, findFid}
+use Rattle.files.specs.Directory.{goodSfi, findFid, findFolder}
 use Rattle.files.specs.Record.{grows, isRecord, hasRoom}
-use Rattle.files.specs.Create.{goodContents, sfiUnused, room}
-use Rattle.files.specs.State.{newFile}
+use Rattle.files.specs.Create.{goodContents, nameUnused, room, fidUnused}
+use Rattle.files.specs.State.{newFile, inFolder}
 use Rattle.files.proofs.Checks.{clash, both, join}
 use Rattle.rules.specs.declared.Card.{Card}
 use Rattle.rules.specs.Words.{allOf, byte}
@@ -24,14 +24,15 @@ use Rattle.rules.specs.Sound.{digit, goodChallenge, sound}
 use Rattle.rules.specs.Frame.{Command, framed}
 use Rattle.rules.specs.Binary.{target, opens, bySfi}
 use Rattle.rules.specs.Record.{goodP2, recordTarget, recordFound}
+use Rattle.rules.specs.Create.{isFolder, goodFolderGiven, creationRight}
 use Rattle.rules.specs.Pins.{pinGiven}
 use Rattle.rules.specs.Step.{Stepped}
 use Rattle.rules.proofs.Checks.{one-of, either}
 use Rattle.rules.proofs.Good.{sound-good, responded}
-use Rattle.rules.proofs.Targets.{not-zero, fid-low}
-use Rattle.demands.specs.Held.{fileNo, IsFile, bytesNo, Named, recordsOf, valueNo, rightNo, leftNo, Opens, labelNo, heldOn, binarySfi, recordSfi}
-use Rattle.demands.specs.Ledger.{sizeOf, fidOf}
-use Rattle.demands.proofs.Named.{named-target, target-named, the-fid, found-fid, opens-asked, asked-opens}
+use Rattle.rules.proofs.Targets.{not-zero}
+use Rattle.demands.specs.Held.{fileNo, bytesNo, Named, recordsOf, valueNo, rightNo, leftNo, Opens, labelNo, heldOn, binarySfi, recordSfi}
+use Rattle.demands.specs.Ledger.{sizeOf}
+use Rattle.demands.proofs.Named.{named-target, target-named, the-fid, found-fid, the-folder, found-folder, opens-asked, asked-opens}
 use Rattle.served.specs.Left.{Ask, Says, Left, Refused, Kept, Fetched}
 use Rattle.served.specs.Answers as answers
 use Rattle.served.specs.One.{SameAnswer, OneAnswer}
@@ -158,17 +159,23 @@ module _ (c : Card) (area other random : List ℕ) (k : Command) (s t : Stepped)
   -- ---- the files
   pub select-same : answers.Select c area random k s → answers.Select c other random k t → R
   select-same p q =
+      let fid : ℕ = answers.fid c area random k s in
+      let g = sound-good c area h in
+      let n : ℕ = findFid (c .directory) (c .session .folder) fid in
+      let m : ℕ = findFolder (c .directory) fid in
       p-same p q (λ p q. lc-same p q (λ p q.
-      let fid = answers.fid c area random k s in
-      let n : ℕ = findFid (c .directory) fid in
-      by-cases (ℕ-discrete fid 0x3F00) (λ z. says-same 0x9000 [] (p .root z .says) (q .root z .says))
-      (λ o. by-cases (ℕ-discrete (findFid (c .directory) fid) 0)
-      (λ z. let none : (m : ℕ) → IsFile c m → fidOf (labelNo c m) ≡ fid → ⊥ = λ m w e. omega (arith, z, the-fid c (sound-good c area h) fid m w e, w .first) in
-      says-same 0x6A82 [] (p .none o none .says) (q .none o none .says))
-      (λ m. let some : 1 ≤ findFid (c .directory) fid = omega (arith, m) in
-      let there : IsFile c (findFid (c .directory) fid) = record { first = some; last = fid-low (c .directory) (sound-good c area h .directory) fid } in
-      let e = found-fid c (sound-good c area h) fid some in
-      says-same 0x9000 [] (p .found n there e .says) (q .found n there e .says)))))
+      by-cases (ℕ-discrete (findFid (c .directory) (c .session .folder) fid) 0)
+      (λ z. let none : (i : ℕ) → answers.FileHas c fid i → ⊥ = λ i w. omega (arith, z, the-fid c g (c .session .folder) fid i (w .within) (w .fid-is), w .within .there .first) in
+      by-cases (ℕ-discrete (findFolder (c .directory) fid) 0)
+      (λ y. let nowhere : (i : ℕ) → answers.FolderHas c fid i → ⊥ = λ i w. omega (arith, y, the-folder c g fid i (w .there) (w .fid-is), w .there .first) in
+      by-cases (ℕ-discrete fid 0x3F00) (λ e. says-same 0x9000 [] (p .root none nowhere e .says) (q .root none nowhere e .says))
+      (λ o. says-same 0x6A82 [] (p .none none nowhere o .says) (q .none none nowhere o .says)))
+      (λ y. let w = found-folder c fid (omega (arith, y)) in
+      let has : answers.FolderHas c fid (findFolder (c .directory) fid) = record { there = w .0; fid-is = w .1 } in
+      says-same 0x9000 [] (p .directory none m has .says) (q .directory none m has .says)))
+      (λ z. let w = found-fid c g (c .session .folder) fid (omega (arith, z)) in
+      let has : answers.FileHas c fid (findFid (c .directory) (c .session .folder) fid) = record { within = w .0; fid-is = w .1 } in
+      says-same 0x9000 [] (p .file n has .says) (q .file n has .says))))
 
   binary-same : (case : ℕ) (right : File → ℕ) {N M : ℕ → Type 0} → answers.askBinary c area random k s case right N → answers.askBinary c other random k t case right M
       → ((n : ℕ) → Named c (binarySfi k) n → Opens (heldOn c) (right (fileNo c n)) → N n → M n → R) → R
@@ -241,13 +248,25 @@ module _ (c : Card) (area other random : List ℕ) (k : Command) (s t : Stepped)
 
   pub create-same : answers.CreateFile c area random k s → answers.CreateFile c other random k t → R
   create-same p q =
-      let x : ℕ = (k .p1 * 256 + k .p2) % 32 in
-      let file = newFile (k .p1) (k .p2) (byte (k .given) 0) (byte (k .given) 1) (byte (k .given) 2) (byte (k .given) 3) (byte (k .given) 4) in
+      let n : ℕ = k .p1 * 256 + k .p2 in
+      let file =
+      inFolder (c .session .folder)
+      (newFile (k .p1) (k .p2) (byte (k .given) 0) (byte (k .given) 1) (byte (k .given) 2) (byte (k .given) 3) (byte (k .given) 4)) in
       ask-same (goodSfi ((k .p1 * 256 + k .p2) % 32)) (λ b. let e = both (leb 1 ((k .p1 * 256 + k .p2) % 32)) (leb ((k .p1 * 256 + k .p2) % 32) 30) b in (leb-true _ _ (e .0), leb-true _ _ (e .1)))
-      (λ e. join (le-leb 1 ((k .p1 * 256 + k .p2) % 32) (e .0)) (le-leb ((k .p1 * 256 + k .p2) % 32) 30 (e .1))) p q (λ a p q. lc-same p q (λ p q. held-same 0 p q (λ p q.
-      ask-same (goodContents file) (create.contents-to file) (create.to-contents file) p q (λ a p q.
-      ask-same (sfiUnused (c .directory) ((k .p1 * 256 + k .p2) % 32)) (create.unused-to c area h ((k .p1 * 256 + k .p2) % 32)) (create.to-unused c area h ((k .p1 * 256 + k .p2) % 32)) p q (λ a p q.
-      ask-same (room (c .directory) file) (create.room-to c area h file) (create.to-room c area h file) p q (λ a p q. says-same 0x9000 [] (p .says) (q .says)))))))
+      (λ e. join (le-leb 1 ((k .p1 * 256 + k .p2) % 32) (e .0)) (le-leb ((k .p1 * 256 + k .p2) % 32) 30 (e .1))) p q (λ a p q. lc-same p q (λ p q.
+      ask-same (opens c (creationRight c)) (create.may-to c k) (create.to-may c k) p q (λ a p q.
+      ask-same (not (isFolder k) || isZero (c .session .folder)) (create.root-to c k) (create.to-root c k) p q (λ a p q.
+      by-cases (ℕ-discrete (byte (k .given) 0) 0x38)
+      (λ z. let u = p .0 z in
+      let v = q .0 z in
+      ask-same (goodFolderGiven k) (create.given-to c k) (create.to-given c k) u v (λ a p q.
+      ask-same (fidUnused (c .directory) n) (create.fid-to c area h n) (create.to-fid c area h n) p q (λ a p q.
+      ask-same (ltb (c .directory .number) 4) (ltb-true _ _) (lt-ltb _ _) p q (λ a p q. says-same 0x9000 [] (p .says) (q .says)))))
+      (λ o. let u = p .1 o in
+      let v = q .1 o in
+      ask-same (goodContents file) (create.contents-to file) (create.to-contents file) u v (λ a p q.
+      ask-same (nameUnused (c .directory) file) (create.unused-to c area h file n refl refl) (create.to-unused c area h file n refl refl) p q (λ a p q.
+      ask-same (room (c .directory) file) (create.room-to c area h file) (create.to-room c area h file) p q (λ a p q. says-same 0x9000 [] (p .says) (q .says)))))))))
 
   -- ---- GET RESPONSE: refused with all kept, or the next bytes
   kept-same : {sw : ℕ} → Kept c area sw s → Kept c other sw t → R

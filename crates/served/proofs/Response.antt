@@ -1,6 +1,6 @@
 -- GET RESPONSE.
-use Prim.Native.Nat.{ℕ, _+_, _-_, _%_, _≤_, _<_, min}
-use mathlib.Core.Bool.{Bool, true, false, not, _||_}
+use Prim.Native.Nat.{ℕ, _+_, _-_, _%_, _≤_, min}
+use mathlib.Core.Bool.{Bool, true, false, not}
 use mathlib.Core.List.{List, [], _∷_}
 use mathlib.Core.Logic.{_⊎_, inl, inr, ⊎-elim, by-cases}
 use mathlib.Core.Path.{_≡_, refl, sym, _∙_, subst}
@@ -12,7 +12,7 @@ use borrow.Author.Tests.{eqb-true, eqb-false, eq-eqb, ne-eqb, leb-true, le-leb, 
 use Rattle.files.specs.Words.{isZero}
 use Rattle.files.proofs.Checks.{clash, both}
 use Rattle.rules.specs.declared.Card.{Card}
-use Rattle.rules.specs.Words.{unless, first, allOf}
+use Rattle.rules.specs.Words.{unless, allOf}
 use Rattle.rules.specs.State.{mode, waiting}
 use Rattle.rules.specs.Sound.{sound}
 use Rattle.rules.specs.Frame.{Command, framed, p}

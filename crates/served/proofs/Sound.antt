@@ -1,5 +1,5 @@
 -- The rules' test of soundness says what document 01 says.
-use Prim.Native.Nat.{ℕ, zero, suc, _+_, _-_, _*_, _≤_, _<_}
+use Prim.Native.Nat.{ℕ, zero, suc, _+_, _-_, _*_, _%_, _≤_, _<_}
 use mathlib.Core.Bool.{Bool, true, false, cond, _||_, not}
 use mathlib.Core.List.{List, [], _∷_}
 use mathlib.Core.Logic.{_⊎_, inl, inr, ⊎-elim, by-cases}
@@ -11,19 +11,22 @@ use lib.ListN.{length, take, drop, getD, length-drop}
 use lib.Seq.{getD-drop, getD-take, drop-cons, drop-drop, drop-length, length-take-le}
 use borrow.Author.Tests.{eqb-true, eq-eqb, ne-eqb, leb-true, le-leb, ltb-true, lt-ltb, le-ltb}
 use Rattle.files.specs.declared.File.{File}
+use Rattle.files.specs.declared.Folder.{Folder}
 use Rattle.files.specs.declared.Directory.{Directory}
-use Rattle.files.specs.Words.{isZero}
-use Rattle.files.specs.State.{blankFile}
+use Rattle.files.specs.Words.{isZero, seek}
+use Rattle.files.specs.State.{blankFile, blankFolder}
 use Rattle.files.specs.Types.{cyclic, isVariable, count, size}
-use Rattle.files.specs.Directory.{sfi, goodSfi, used, fileAt, start, startAt, extent, seek, ofSfi}
+use Rattle.files.specs.Directory.{fid, sfi, goodSfi, used, fileAt, start, startAt, extent, ofSfi, here, folderAt, folderFid, folderHere}
 use Rattle.files.specs.Walk.{lengthAt, stands, walk, parted, standing}
 use Rattle.files.specs.Record.{bytesUsed, soundHeld, soundUsed, partedFile}
-use Rattle.files.specs.Create.{goodContents}
-use Rattle.files.specs.Sound.{soundFile, unusedPlace, soundPlace, alone}
+use Rattle.files.specs.Rights.{goodRights}
+use Rattle.files.specs.Create.{goodContents, apart, housed, goodFolder}
+use Rattle.files.specs.Sound.{soundFile, unusedPlace, soundPlace, alone, unusedFolder, folderAlone, soundFolder, soundHome}
 use Rattle.files.proofs.Checks.{both, join, each, all}
-use Rattle.files.proofs.Extents.{used-is, start-next, seek-low}
+use Rattle.files.proofs.Extents.{used-is, start-next}
 use Rattle.files.proofs.Parts.{part-length}
-use Rattle.files.proofs.Sought.{seek-found}
+use Rattle.files.proofs.Sought.{seek-low, seek-found}
+use Rattle.files.proofs.Folders.{folder-good}
 use Rattle.files.proofs.Walks.{stood, is-standing, walk-none, walk-on, walk-low, Parts, parts, is-parted}
 use Rattle.files.proofs.Lists.{count-cyclic, parted-used}
 use Rattle.files.proofs.Kept.{Filed, filed, is-filed, file-sound, PartedIn}
@@ -34,15 +37,16 @@ use Rattle.rules.specs.Words.{allOf, byte}
 use Rattle.rules.specs.State.{marked, valueOf}
 use Rattle.rules.specs.Sound.{goodPin, goodValue, soundValue, goodChallenge, soundChallenge, soundResponse, sound}
 use Rattle.rules.proofs.Checks.{one-of, either}
+use Rattle.rules.proofs.Targets.{some-lies, lies-there}
 use Rattle.rules.proofs.Good.{said-short, Credited, responded, sound-good, sound-parted, sound-both}
-use Rattle.demands.specs.Held.{fileNo, IsFile, bytesNo, rightNo, credentialNo}
-use Rattle.demands.proofs.Named.{one-sfi}
+use Rattle.demands.specs.Held.{fileNo, IsFile, bytesNo, folderNo, IsFolder, tagOf, Within, rightNo, credentialNo}
+use Rattle.demands.proofs.Named.{one-sfi, one-fid}
 use Rattle.demands.proofs.View.{size-is, start-is, bytes-are}
-use Rattle.served.specs.Sound.{SoundCredential, SoundFile, Parted, nothing-left, one-more, SoundFiles, waitNo, Sound, SoundBothWays}
+use Rattle.served.specs.Sound.{SoundCredential, SoundFile, Parted, nothing-left, one-more, SoundFiles, SoundFolder, SoundFolders, waitNo, Sound, SoundBothWays}
 use Rattle.served.proofs.View.{extent-length, parted-sound}
 use Rattle.served.proofs.Credentials.{le-to, to-le}
 use Rattle.served.proofs.Calls.{pin-to, to-pin}
-use Rattle.served.proofs.Create.{contents-to, to-contents}
+use Rattle.served.proofs.Create.{right-to, to-right, contents-to, to-contents, apart-to, to-apart}
 
 -- ---- unused bytes
 all-zero : (l : List ℕ) → allOf isZero l ≡ true → (i : ℕ) → getD l i 0 ≡ 0
@@ -173,9 +177,9 @@ unfolding unusedPlace
 unused-to f h =
     let e = each
     (isZero (f .fid1) ∷ isZero (f .fid2) ∷ isZero (f .kind) ∷ isZero (f .size1) ∷ isZero (f .size2) ∷ isZero (f .read) ∷ isZero (f .write) ∷ isZero (f .held)
-    ∷ isZero (f .newest) ∷ isZero (f .used1) ∷ isZero (f .used2) ∷ []) h in
+    ∷ isZero (f .newest) ∷ isZero (f .used1) ∷ isZero (f .used2) ∷ isZero (f .folder) ∷ []) h in
     let whole : _≡_ {A = File}
-    (record { fid1 = f .fid1; fid2 = f .fid2; kind = f .kind; size1 = f .size1; size2 = f .size2; read = f .read; write = f .write; held = f .held; newest = f .newest; used1 = f .used1; used2 = f .used2 })
+    (record { fid1 = f .fid1; fid2 = f .fid2; kind = f .kind; size1 = f .size1; size2 = f .size2; read = f .read; write = f .write; held = f .held; newest = f .newest; used1 = f .used1; used2 = f .used2; folder = f .folder })
     blankFile =
     rw (
       eqb-true (f .fid1) 0 (e .0),
@@ -188,13 +192,38 @@ unused-to f h =
       eqb-true (f .held) 0 (e .1 .1 .1 .1 .1 .1 .1 .0),
       eqb-true (f .newest) 0 (e .1 .1 .1 .1 .1 .1 .1 .1 .0),
       eqb-true (f .used1) 0 (e .1 .1 .1 .1 .1 .1 .1 .1 .1 .0),
-      eqb-true (f .used2) 0 (e .1 .1 .1 .1 .1 .1 .1 .1 .1 .1),
+      eqb-true (f .used2) 0 (e .1 .1 .1 .1 .1 .1 .1 .1 .1 .1 .0),
+      eqb-true (f .folder) 0 (e .1 .1 .1 .1 .1 .1 .1 .1 .1 .1 .1),
     ) in
     whole
 
 to-unused : (f : File) → f ≡ blankFile → unusedPlace f ≡ true
 unfolding unusedPlace
 to-unused f e = rw e
+
+-- ---- a directory
+folder-to : (x : Folder) → goodFolder x ≡ true → SoundFolder (tagOf x)
+unfolding goodFolder
+folder-to x h =
+    let e = both (goodSfi (folderFid x % 32)) (goodRights (x .right)) h in
+    let q = both (leb 1 (folderFid x % 32)) (leb (folderFid x % 32) 30) (e .0) in
+    record { fid = (leb-true _ _ (q .0), leb-true _ _ (q .1)); right = right-to (x .right) (e .1) }
+
+to-folder : (x : Folder) → SoundFolder (tagOf x) → goodFolder x ≡ true
+unfolding goodFolder
+to-folder x s = join (join (le-leb 1 (folderFid x % 32) (s .fid .0)) (le-leb (folderFid x % 32) 30 (s .fid .1))) (to-right (x .right) (s .right))
+
+blank-to : (x : Folder) → unusedFolder x ≡ true → x ≡ blankFolder
+unfolding unusedFolder
+blank-to x h =
+    let e = each (isZero (x .fid1) ∷ isZero (x .fid2) ∷ isZero (x .right) ∷ []) h in
+    let whole : _≡_ {A = Folder} (record { fid1 = x .fid1; fid2 = x .fid2; right = x .right }) blankFolder =
+    rw (eqb-true (x .fid1) 0 (e .0), eqb-true (x .fid2) 0 (e .1 .0), eqb-true (x .right) 0 (e .1 .1)) in
+    whole
+
+to-blank : (x : Folder) → x ≡ blankFolder → unusedFolder x ≡ true
+unfolding unusedFolder
+to-blank x e = rw e
 
 -- ---- lengths part the used bytes
 module _ (used : ℕ) (x : List ℕ) (long : used ≤ length x) where
@@ -262,6 +291,24 @@ module _ (c : Card) (area : List ℕ) (h : sound c area ≡ true) where
       let all-of = parted-from (bytesUsed f) x long m w m 0 (omega arith) in
       rw (bytes-are c area n) (subst (λ at. Parted (drop at (take (bytesUsed f) x))) (walk-none (bytesUsed f) x) all-of)
 
+  home : (i : ℕ) → i < c .directory .count → (housed (c .directory) (fileAt (c .directory .files) i) ≡ true) × (apart (c .directory) (fileAt (c .directory .files) i) ≡ true)
+  home i l = both (housed d (fileAt (d .files) i)) (apart d (fileAt (d .files) i)) (filed d (sound-good c area h .directory) .each-home i l)
+
+  folders-to : SoundFolders c
+  unfolding soundFolder
+  folders-to =
+      let g = filed d (sound-good c area h .directory) .folders in
+      record {
+        places = g .places;
+        few = g .few;
+        each = λ n t. folder-to (folderNo c n) (folder-good (d .folders) (d .number) g (n - 1) (omega (arith, t .first, t .last)));
+        unused = λ n l m. blank-to (folderNo c n) (rw (le-ltb (n - 1) (d .number) (omega (arith, l))) at (g .each-folder (n - 1) (omega (arith, l, m))));
+        one-fid = λ n m tn tm e.
+            let q = one-fid d (sound-good c area h .directory) (n - 1) (m - 1) (omega (arith, tn .first, tn .last)) (omega (arith, tm .first, tm .last)) e in
+            omega (arith, q, tn .first, tm .first);
+        no-file = λ n m t w e. apart-to c area h (fileNo c m) (home (m - 1) (omega (arith, w .there .first, w .there .last)) .1) (w .lies) n t e;
+      }
+
   files-to : SoundFiles c area
   files-to =
       let g = filed d (sound-good c area h .directory) in
@@ -276,13 +323,15 @@ module _ (c : Card) (area : List ℕ) (h : sound c area ≡ true) where
         inside = rw ends (subst (λ n. startAt (d .files) n ≤ length area) u (p .room));
         each = each-file;
         unused = λ n l m. unused-to (fileNo c n) (rw (le-ltb (n - 1) (d .count) (omega (arith, l))) at (g .each-place (n - 1) (omega (arith, l, m))));
-        one-sfi = λ n m tn tm e.
-            let q = one-sfi d (sound-good c area h .directory) (n - 1) (m - 1) (omega (arith, tn .first, tn .last)) (omega (arith, tm .first, tm .last)) e in
-            omega (arith, q, tn .first, tm .first);
+        housed = λ n t. leb-true _ _ (home (n - 1) (omega (arith, t .first, t .last)) .0);
+        one-sfi = λ folder n m tn tm e.
+            let q = one-sfi d (sound-good c area h .directory) (n - 1) (m - 1) (omega (arith, tn .there .first, tn .there .last)) (omega (arith, tm .there .first, tm .there .last))
+            (tn .lies ∙ sym (tm .lies), e) in
+            omega (arith, q, tn .there .first, tm .there .first);
         parted = λ n t e. notes-parted n t e (each-file n t);
       }
 
-module _ (c : Card) (area : List ℕ) (s : SoundFiles c area) where
+module _ (c : Card) (area : List ℕ) (s : SoundFiles c area) (x : SoundFolders c) where
   abbrev dir : Directory
   dir = c .directory
 
@@ -299,14 +348,52 @@ module _ (c : Card) (area : List ℕ) (s : SoundFiles c area) where
 
   each-alone : (i : ℕ) → i < c .directory .count → alone (c .directory .files) i ≡ true
   each-alone i l =
-      let p = ofSfi (sfi (fileAt (dir .files) i)) in
-      by-cases (ℕ-discrete (seek p (dir .files) i) 0) (λ e. eq-eqb _ _ e)
-      (λ o. let some : 1 ≤ seek p (dir .files) i = omega (arith, o) in
-      let low = seek-low p (dir .files) i in
-      let m : ℕ = seek p (dir .files) i - 1 in
-      let same : sfi (fileAt (dir .files) (seek p (dir .files) i - 1)) ≡ sfi (fileAt (dir .files) i) = eqb-true _ _ (seek-found p (dir .files) i some) in
-      let q = s .one-sfi (m + 1) (i + 1) (is-file m (omega (arith, some, low, l))) (is-file i l) (ap sfi (back-one m) ∙ same ∙ sym (ap sfi (back-one i))) in
+      let f = fileAt (dir .files) i in
+      let p = here (ofSfi (f .folder) (sfi f)) (dir .files) in
+      by-cases (ℕ-discrete (seek p i) 0) (λ e. eq-eqb _ _ e)
+      (λ o. let some : 1 ≤ seek p i = omega (arith, o) in
+      let low = seek-low p i in
+      let m : ℕ = seek p i - 1 in
+      let same = both (eqb (fileAt (dir .files) m .folder) (f .folder)) (eqb (sfi (fileAt (dir .files) m)) (sfi f)) (seek-found p i some) in
+      let in-m : Within c (f .folder) (m + 1) = record { there = is-file m (omega (arith, some, low, l)); lies = ap (λ (y : File). y .folder) (back-one m) ∙ eqb-true _ _ (same .0) } in
+      let in-i : Within c (f .folder) (i + 1) = record { there = is-file i l; lies = ap (λ (y : File). y .folder) (back-one i) } in
+      let q = s .one-sfi (f .folder) (m + 1) (i + 1) in-m in-i (ap sfi (back-one m) ∙ eqb-true _ _ (same .1) ∙ sym (ap sfi (back-one i))) in
       absurd (omega (arith, q, some, low)))
+
+  -- directories
+  is-folder : (i : ℕ) → i < c .directory .number → IsFolder c (i + 1)
+  is-folder i l = record { first = omega arith; last = omega (arith, l) }
+
+  folder-back : (i : ℕ) → folderNo c (i + 1) ≡ folderAt (c .directory .folders) i
+  folder-back i = let e : i + 1 - 1 ≡ i = omega arith in rw e
+
+  alone-folder : (i : ℕ) → i < c .directory .number → folderAlone (c .directory .folders) i ≡ true
+  alone-folder i l =
+      let p = folderHere (folderFid (folderAt (dir .folders) i)) (dir .folders) in
+      by-cases (ℕ-discrete (seek p i) 0) (λ e. eq-eqb _ _ e)
+      (λ o. let some : 1 ≤ seek p i = omega (arith, o) in
+      let low = seek-low p i in
+      let m : ℕ = seek p i - 1 in
+      let q = x .one-fid (m + 1) (i + 1) (is-folder m (omega (arith, some, low, l))) (is-folder i l)
+      (ap folderFid (folder-back m) ∙ eqb-true _ _ (seek-found p i some) ∙ sym (ap folderFid (folder-back i))) in
+      absurd (omega (arith, q, some, low)))
+
+  each-folder : (i : ℕ) → i < 4 → soundFolder (c .directory .folders) (c .directory .number) i ≡ true
+  unfolding soundFolder
+  each-folder i l =
+      by-cases (decLt i (dir .number))
+      (λ m. rw (lt-ltb i (dir .number) m)
+      (join (subst (λ (y : Folder). goodFolder y ≡ true) (folder-back i) (to-folder (folderNo c (i + 1)) (x .each (i + 1) (is-folder i m)))) (alone-folder i m)))
+      (λ m. rw (le-ltb i (dir .number) (omega arith)) (to-blank (folderAt (dir .folders) i) (sym (folder-back i) ∙ x .unused (i + 1) (omega arith) (omega arith))))
+
+  each-home : (i : ℕ) → i < c .directory .count → soundHome (c .directory) i ≡ true
+  each-home i l =
+      let f = fileAt (dir .files) i in
+      let e = back-one i in
+      let t = is-file i l in
+      join (le-leb (f .folder) (dir .number) (subst (λ (y : File). y .folder ≤ dir .number) e (s .housed (i + 1) t)))
+      (to-apart c f
+      (λ z n there q. x .no-file n (i + 1) there (record { there = t; lies = ap (λ (y : File). y .folder) e ∙ z }) (q ∙ sym (ap fid e))))
 
   filed-back : Filed (c .directory)
   filed-back = record {
@@ -315,6 +402,8 @@ module _ (c : Card) (area : List ℕ) (s : SoundFiles c area) where
     room = rw (← start-is (dir .files) (dir .count)) (s .room);
     each-place = each-place;
     each-sfi = each-alone;
+    folders = record { places = x .places; few = x .few; each-folder = each-folder };
+    each-home = each-home;
   }
 
   lies-inside : (n : ℕ) → IsFile c n → start (c .directory) n + size (fileNo c n) ≤ length area
@@ -374,7 +463,10 @@ sound-both-ways c area = (
         three-rights = g .all-kept;
         credentials = λ n l. credential-to n (credentialNo c n) (rightNo c n) (g .credited n l);
         files = files-to c area h;
+        folders = folders-to c area h;
         current = g .current;
+        current-folder = g .folder;
+        current-lies = lies-there (c .directory) (c .session .current) (c .session .folder) (g .lies);
         challenge = record { as-many = eqb-true _ _ (e .0); most = said-short (c .session .len) (e .1 .0); rest = rest-to (c .session .len) (c .session .challenge) (e .1 .1) };
         challenge-length = len;
         mode = leb-true _ _ (r .mode);
@@ -388,13 +480,15 @@ sound-both-ways c area = (
         all-there = s .three;
         all-kept = s .three-rights;
         credited = λ n l. to-credential n (credentialNo c n) (rightNo c n) (s .credentials n l);
-        directory = is-filed (c .directory) (filed-back c area (s .files));
+        directory = is-filed (c .directory) (filed-back c area (s .files) (s .folders));
         current = s .current;
+        folder = s .current-folder;
+        lies = some-lies (c .directory) (c .session .current) (c .session .folder) (s .current-lies);
         challenge = all (challenge-list (c .session)) (eq-eqb _ _ (s .challenge .as-many), (to-said (c .session .len) (s .challenge-length), to-rest (c .session .len) (c .session .challenge) (s .challenge .rest)));
         response =
             all
             (eqb (length (c .response .bytes)) 256 ∷ leb (c .response .mode) 1 ∷ leb (waitNo c) 256 ∷ (marked (c .response .mode) || isZero (waitNo c))
             ∷ allOf isZero (drop (waitNo c) (c .response .bytes)) ∷ [])
             (eq-eqb _ _ (s .waiting .as-many), (le-leb _ _ (s .mode), (le-leb _ _ (s .waiting .most), (waits-none c s, to-rest (waitNo c) (c .response .bytes) (s .waiting .rest)))));
-      }) (parted-back c area (s .files)),
+      }) (parted-back c area (s .files) (s .folders)),
 )

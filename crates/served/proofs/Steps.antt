@@ -15,7 +15,7 @@ use Rattle.rules.specs.declared.Card.{Card}
 use Rattle.rules.specs.declared.Response.{Response}
 use Rattle.rules.specs.declared.Ins.{Ins}
 use Rattle.rules.specs.Words.{unless, orElse, first}
-use Rattle.rules.specs.State.{marked, mode, waitCount, waiting, withCurrent}
+use Rattle.rules.specs.State.{marked, mode, waitCount, waiting, withSession, withCurrent}
 use Rattle.rules.specs.Sound.{sound}
 use Rattle.rules.specs.Frame.{Command, framed, classSw}
 use Rattle.rules.specs.Effect.{Effect, effect, answers}
@@ -33,7 +33,7 @@ use Rattle.demands.specs.Held.{Named}
 use Rattle.demands.proofs.Delivered.{at-once-response}
 use Rattle.demands.proofs.Soundness.{at-once-few}
 use Rattle.demands.proofs.Named.{named-target, target-named}
-use Rattle.served.specs.Left.{Says, Challenge, Left, Refused}
+use Rattle.served.specs.Left.{Says, Challenge, LeftIn, Left, Refused}
 use Rattle.served.specs.Answers.{ask, askFile, Answers}
 
 -- checks in a row
@@ -53,23 +53,31 @@ pub record Settled (c : Card) (area : List ℕ) (e : Effect) (s : Stepped) : Typ
   pub credentials-are : s .card .credentials ≡ e .card .credentials
   pub rights-are : s .card .session .rights ≡ e .card .session .rights
   pub directory-is : s .card .directory ≡ e .card .directory
+  pub folder-is : s .card .session .folder ≡ e .card .session .folder
   pub current-is : s .card .session .current ≡ e .card .session .current
   pub challenge-is : Challenge (s .card) (e .says)
   pub area-is : s .area ≡ splice area (e .into) (e .stores)
 
--- an effect that touches no credential, no file and no byte of the area
-pub quiet : (c : Card) (area : List ℕ) (sw n : ℕ) (said : List ℕ) (from m : ℕ) (d : List ℕ) (s : Stepped) → Settled c area (effect sw (withCurrent c n) said from m 0 []) s
-    → said ++ part from m area ≡ d → Left c area sw d n said s
+-- an effect that touches no credential, no file and no byte of the area; n and m become the current directory and file
+pub quiet-in : (c : Card) (area : List ℕ) (sw n m : ℕ) (said : List ℕ) (from i : ℕ) (d : List ℕ) (s : Stepped)
+    → Settled c area (effect sw (withSession c (record { rights = c .session .rights; current = m; challenge = c .session .challenge; len = c .session .len; folder = n })) said from i 0 []) s
+    → said ++ part from i area ≡ d → LeftIn c area sw d n m said s
 unfolding splice
-quiet c area sw n said from m d s q e = record {
+quiet-in c area sw n m said from i d s q e = record {
   says = subst (λ z. Says c sw z s) e (q .says);
   credentials-are = q .credentials-are;
   rights-are = q .rights-are;
   directory-is = q .directory-is;
   area-is = q .area-is;
+  folder-is = q .folder-is;
   current-is = q .current-is;
   challenge-is = q .challenge-is;
 }
+
+-- the current directory stays
+pub quiet : (c : Card) (area : List ℕ) (sw n : ℕ) (said : List ℕ) (from m : ℕ) (d : List ℕ) (s : Stepped) → Settled c area (effect sw (withCurrent c n) said from m 0 []) s
+    → said ++ part from m area ≡ d → Left c area sw d n said s
+quiet c area sw n said from m d s q e = quiet-in c area sw (c .session .folder) n said from m d s q e
 
 -- a sound card of mode 0 has nothing waiting
 none-wait : (c : Card) (area : List ℕ) → sound c area ≡ true → mode c ≡ 0 → waiting c ≡ []
@@ -107,6 +115,7 @@ module _ (c : Card) (area cmd random : List ℕ) (h : sound c area ≡ true) (l 
         credentials-are = refl;
         rights-are = refl;
         directory-is = refl;
+        folder-is = refl;
         current-is = refl;
         challenge-is = record { length-is = refl; bytes-are = filled-behind (e .says) };
         area-is = refl;
@@ -122,6 +131,7 @@ module _ (c : Card) (area cmd random : List ℕ) (h : sound c area ≡ true) (l 
         credentials-are = refl;
         rights-are = refl;
         directory-is = refl;
+        folder-is = refl;
         current-is = refl;
         challenge-is = record { length-is = refl; bytes-are = filled-behind (e .says) };
         area-is = refl;

@@ -35,7 +35,7 @@ use Rattle.served.proofs.Steps.{Settled}
 pub stored : (c : Card) (area : List ℕ) (n at : ℕ) (ys : List ℕ) (s : Stepped) → Settled c area (storing (withCurrent c n) at ys) s
     → Settled c area (storing (withCurrent (withDirectory c (withFile (c .directory) (n - 1) (fileNo c n))) n) at ys) s
 stored c area n at ys s q =
-    subst (λ (fs : List File). Settled c area (storing (withCurrent (withDirectory c (record { files = fs; count = c .directory .count })) n) at ys) s)
+    subst (λ (fs : List File). Settled c area (storing (withCurrent (withDirectory c (record { files = fs; count = c .directory .count; folders = c .directory .folders; number = c .directory .number })) n) at ys) s)
     (sym (set-getD (c .directory .files) (n - 1) blankFile)) q
 
 -- file n is then f, and these bytes stand in it from one of its bytes on
@@ -94,8 +94,11 @@ module _ (c : Card) (area : List ℕ) (h : sound c area ≡ true) (n : ℕ) (t :
     says = q .says;
     credentials-are = q .credentials-are;
     rights-are = q .rights-are;
+    folder-is = q .folder-is;
     current-is = q .current-is;
     challenge-is = q .challenge-is;
+    folders-are = ap (λ (x : Directory). x .folders) (q .directory-is);
+    as-many-folders = ap (λ (x : Directory). x .number) (q .directory-is);
     as-many = ap (λ (x : Directory). x .count) (q .directory-is);
     label-is = ap labelOf now-file ∙ label;
     others = λ m l o. (other-file m l o, other-bytes m l o);

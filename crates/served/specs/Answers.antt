@@ -1,4 +1,4 @@
--- Each command answers what the paper says: document 01's "Framing" and "The twelve commands", with R-1, R-2, R-5 and R-6. A command is its conditions in the
+-- Each command answers what the paper says: document 01's "Framing" and "The twelve commands", with R-1, R-2 and R-5 to R-7. A command is its conditions in the
 -- paper's order, each with the word of its refusal (ask), and where all of them hold what comes of it. The words are the statement's own, over the state's fields
 -- (Held): no check, effect or list view of the rules is cited.
 use Prim.Native.Nat.{ℕ, _+_, _-_, _*_, _/_, _%_, _≤_, _<_, min}
@@ -15,10 +15,10 @@ use Rattle.rules.specs.Sound.{sound}
 use Rattle.rules.specs.Frame.{Command, framed}
 use Rattle.rules.specs.Step.{Stepped, step}
 use Rattle.demands.specs.Soundness.{Bytes}
-use Rattle.demands.specs.Held.{fileNo, IsFile, startNo, bytesNo, Named, bytesUsed, recordsNo, valueNo, leftNo, limitNo, rightNo, Opens, labelOf, labelNo, byP1, binarySfi, recordSfi, heldOn}
-use Rattle.demands.specs.Ledger.{Label, labelGiven, sizeOf, sfiOf, fidOf}
+use Rattle.demands.specs.Held.{fileNo, IsFile, startNo, bytesNo, IsFolder, tagNo, Within, Named, bytesUsed, recordsNo, valueNo, leftNo, limitNo, rightNo, Opens, MayCreate, labelOf, labelNo, byP1, binarySfi, recordSfi, heldOn}
+use Rattle.demands.specs.Ledger.{Label, labelGiven, tagGiven, sizeOf, sfiOf, fidOf, fidOfTag}
 use Rattle.demands.specs.Framing.{Sent}
-use Rattle.served.specs.Left.{mode, waiting, Ask, Says, Challenge, Left, Refused, Written, OneRun, Credited, Kept, Fetched, Stores}
+use Rattle.served.specs.Left.{mode, waiting, Ask, Says, Challenge, LeftIn, Left, Refused, Written, OneRun, Credited, Kept, Fetched, Stores}
 
 -- type 2A, 2E or 2C has records, and 2E and 2C take new ones
 abbrev pub HasRecords : File → Type 0
@@ -54,6 +54,31 @@ OneOf n (x ∷ more) = (n ≡ x) ⊎ OneOf n more
 abbrev pub counted : ℕ → ℕ
 counted left = 0x63C0 + min left 15
 
+-- ---- what SELECT and CREATE FILE look for (R-7); directory 0 is the root
+-- a file of the current directory has the FID; a directory has it
+pub record FileHas (c : Card) (fid n : ℕ) : Type 0 where
+  pub within : Within c (c .session .folder) n
+  pub fid-is : fidOf (labelNo c n) ≡ fid
+
+pub record FolderHas (c : Card) (fid n : ℕ) : Type 0 where
+  pub there : IsFolder c n
+  pub fid-is : fidOfTag (tagNo c n) ≡ fid
+
+-- of a new file: no file of the current directory has its SFI, and in the root no directory its FID
+pub record FileFree (c : Card) (fid : ℕ) : Type 0 where
+  pub sfi-unused : (n : ℕ) → Within c (c .session .folder) n → sfiOf (labelNo c n) ≡ fid % 32 → ⊥
+  pub no-directory : c .session .folder ≡ 0 → (n : ℕ) → FolderHas c fid n → ⊥
+
+-- of a new directory: no other directory and no file in the root has its FID
+pub record FolderFree (c : Card) (fid : ℕ) : Type 0 where
+  pub no-directory : (n : ℕ) → FolderHas c fid n → ⊥
+  pub no-file : (n : ℕ) → Within c 0 n → fidOf (labelNo c n) ≡ fid → ⊥
+
+-- the data of a directory: 38, two bytes 00, a creation right, 00
+pub record FolderGiven (given : List ℕ) : Type 0 where
+  pub zeros : (byte given 1 ≡ 0) × ((byte given 2 ≡ 0) × (byte given 4 ≡ 0))
+  pub right : GoodRight (byte given 3)
+
 -- a card and its area, the random input, a command taken apart, and what the step makes of it
 module _ (c : Card) (area random : List ℕ) (k : Command) (s : Stepped) where
   abbrev pub ask : Type 0 → ℕ → Type 0 → Type 0
@@ -82,11 +107,13 @@ module _ (c : Card) (area random : List ℕ) (k : Command) (s : Stepped) where
   abbrev pub fid : ℕ
   fid = byte (k .given) 0 * 256 + byte (k .given) 1
 
-  -- the FID of a file, or 3F00 (6A82); the file becomes current, 3F00 makes none current
+  -- it looks in the current directory first, then among directories, then 3F00 for the root, else 6A82; the file becomes current, and a directory or the root
+  -- becomes the current one and leaves no current file
   pub record Selects : Type 0 where
-    pub none : (fid ≡ 0x3F00 → ⊥) → ((n : ℕ) → IsFile c n → fidOf (labelNo c n) ≡ fid → ⊥) → Refused c area 0x6A82 s
-    pub root : fid ≡ 0x3F00 → Left c area 0x9000 [] 0 [] s
-    pub found : (n : ℕ) → IsFile c n → fidOf (labelNo c n) ≡ fid → Left c area 0x9000 [] n [] s
+    pub file : (n : ℕ) → FileHas c fid n → Left c area 0x9000 [] n [] s
+    pub directory : ((n : ℕ) → FileHas c fid n → ⊥) → (n : ℕ) → FolderHas c fid n → LeftIn c area 0x9000 [] n 0 [] s
+    pub root : ((n : ℕ) → FileHas c fid n → ⊥) → ((n : ℕ) → FolderHas c fid n → ⊥) → fid ≡ 0x3F00 → LeftIn c area 0x9000 [] 0 0 [] s
+    pub none : ((n : ℕ) → FileHas c fid n → ⊥) → ((n : ℕ) → FolderHas c fid n → ⊥) → (fid ≡ 0x3F00 → ⊥) → Refused c area 0x6A82 s
 
   abbrev pub Select : Type 0
   Select = ask (p ≡ 0x0000) 0x6A86 (ask ((k .case ≡ 3) × (lc ≡ 2)) 0x6700 Selects)
@@ -259,35 +286,70 @@ module _ (c : Card) (area random : List ℕ) (k : Command) (s : Stepped) where
       (ask (Digits (k .given)) 0x6A80
       (Credited c area 0x9000 2 (k .given) (limitNo c 2) 0 s))))
 
-  -- ---- CREATE FILE 80 E0: P is the FID; the data are type, two size bytes, read and write right (labelGiven)
-  -- the new file comes after the last
+  -- ---- CREATE FILE 80 E0: P is the FID; the data are type, two size bytes, read and write right. The file lies in the current directory
+  abbrev pub fileGiven : Label
+  fileGiven = labelGiven (c .session .folder) k
+
+  -- it comes after the last
   abbrev pub newNo : ℕ
   newNo = c .directory .count + 1
 
-  -- it is what was given, holds no record, its bytes are 00, and it becomes current; all else stays, every other file and each byte outside of this one
+  -- it is what was given, in the current directory, holds no record, its bytes are 00, and it becomes current; all else stays, every other file, the directories and
+  -- each byte outside of this one
   pub record FileMade : Type 0 where
     pub says : Says c 0x9000 [] s
     pub credentials-are : s .card .credentials ≡ c .credentials
     pub rights-are : s .card .session .rights ≡ c .session .rights
     pub challenge-is : Challenge (s .card) []
+    pub folders-are : s .card .directory .folders ≡ c .directory .folders
+    pub as-many-folders : s .card .directory .number ≡ c .directory .number
+    pub folder-is : s .card .session .folder ≡ c .session .folder
     pub one-more : s .card .directory .count ≡ newNo
     pub current-is : s .card .session .current ≡ newNo
-    pub label-is : labelNo (s .card) newNo ≡ labelGiven k
+    pub label-is : labelNo (s .card) newNo ≡ fileGiven
     pub none-held : (fileNo (s .card) newNo .held ≡ 0) × (fileNo (s .card) newNo .newest ≡ 0)
     pub none-used : bytesUsed (fileNo (s .card) newNo) ≡ 0
-    pub bytes-are : bytesNo (s .card) (s .area) newNo ≡ replicate (sizeOf (labelGiven k)) 0
+    pub bytes-are : bytesNo (s .card) (s .area) newNo ≡ replicate (sizeOf fileGiven) 0
     pub others : (n : ℕ) → IsFile c n → (fileNo (s .card) n ≡ fileNo c n) × (bytesNo (s .card) (s .area) n ≡ bytesNo c area n)
-    pub outside : (j : ℕ) → (j < startNo c newNo) ⊎ (startNo c newNo + sizeOf (labelGiven k) ≤ j) → byte (s .area) j ≡ byte area j
+    pub outside : (j : ℕ) → (j < startNo c newNo) ⊎ (startNo c newNo + sizeOf fileGiven ≤ j) → byte (s .area) j ≡ byte area j
+
+  -- contents as above (6A80); SFI unused in the directory, and no FID of a directory in the root (6986); under 16 files and room in the area (6A84)
+  abbrev pub NewFile : Type 0
+  NewFile =
+      ask (GoodContents fileGiven) 0x6A80
+      (ask (FileFree c p) 0x6986
+      (ask ((c .directory .count < 16) × (startNo c newNo + sizeOf fileGiven ≤ 4096)) 0x6A84
+      FileMade))
+
+  -- it comes after the last, and nothing current is altered; all else stays, every file, every other directory and each byte
+  pub record FolderMade : Type 0 where
+    pub says : Says c 0x9000 [] s
+    pub credentials-are : s .card .credentials ≡ c .credentials
+    pub rights-are : s .card .session .rights ≡ c .session .rights
+    pub challenge-is : Challenge (s .card) []
+    pub files-are : s .card .directory .files ≡ c .directory .files
+    pub as-many : s .card .directory .count ≡ c .directory .count
+    pub area-is : s .area ≡ area
+    pub currents-are : (s .card .session .folder ≡ c .session .folder) × (s .card .session .current ≡ c .session .current)
+    pub one-more : s .card .directory .number ≡ c .directory .number + 1
+    pub made-is : tagNo (s .card) (c .directory .number + 1) ≡ tagGiven k
+    pub others : (n : ℕ) → IsFolder c n → tagNo (s .card) n ≡ tagNo c n
+
+  -- contents (6A80); its FID unused (6986); under four directories (6A84)
+  abbrev pub NewFolder : Type 0
+  NewFolder = ask (FolderGiven (k .given)) 0x6A80 (ask (FolderFree c p) 0x6986 (ask (c .directory .number < 4) 0x6A84 FolderMade))
+
+  -- type 38 makes a directory, and only in the root (6A81)
+  abbrev pub type : ℕ
+  type = byte (k .given) 0
 
   abbrev pub CreateFile : Type 0
   CreateFile =
       ask ((1 ≤ p % 32) × (p % 32 ≤ 30)) 0x6A86
       (ask ((k .case ≡ 3) × (lc ≡ 5)) 0x6700
-      (ask (rightNo c 0 ≡ 1) 0x6982
-      (ask (GoodContents (labelGiven k)) 0x6A80
-      (ask ((n : ℕ) → IsFile c n → sfiOf (labelNo c n) ≡ p % 32 → ⊥) 0x6986
-      (ask ((c .directory .count < 16) × (startNo c newNo + sizeOf (labelGiven k) ≤ 4096)) 0x6A84
-      FileMade)))))
+      (ask (MayCreate (heldOn c) (c .session .folder) (tagNo c (c .session .folder) .create)) 0x6982
+      (ask (type ≡ 0x38 → c .session .folder ≡ 0) 0x6A81
+      ((type ≡ 0x38 → NewFolder) × ((type ≡ 0x38 → ⊥) → NewFile)))))
 
   -- ---- GET CHALLENGE 00 84: it replies and stores the first Le bytes of the random input
   abbrev pub GetChallenge : Type 0

@@ -63,7 +63,7 @@ pub record GoodOrder (o : Order) : Type 0 where
   pub limits : (w : Which) → (1 ≤ o .given w .limit) × (o .given w .limit ≤ 128)
   pub mode : o .mode ≤ 1
 
--- served, in either mode: values and limits as given, full tries, no right; no file, none current, no challenge, nothing waits; an area of 00
+-- served, in either mode: values and limits as given, full tries, no right; no file and no directory, none current, in the root, no challenge, nothing waits; an area of 00
 pub record Fresh (o : Order) (x : Issued) : Type 0 where
   pub outcome-is : x .answer .outcome ≡ 0
   pub count-is : x .answer .n ≡ 0
@@ -72,7 +72,9 @@ pub record Fresh (o : Order) (x : Issued) : Type 0 where
   pub limits-are : (w : Which) → limitNo (x .answer .card) (numberOf w) ≡ o .given w .limit
   pub no-rights : (n : ℕ) → rightNo (x .answer .card) n ≡ 0
   pub no-files : x .answer .card .directory .count ≡ 0
+  pub no-directories : x .answer .card .directory .number ≡ 0
   pub none-current : x .answer .card .session .current ≡ 0
+  pub in-root : x .answer .card .session .folder ≡ 0
   pub no-challenge : Challenge (x .answer .card) []
   pub mode-is : mode (x .answer .card) ≡ o .mode
   pub none-wait : waiting (x .answer .card) ≡ []
@@ -87,12 +89,13 @@ pub record NotReset (c : Card) (x : Answer) (number : ℕ) : Type 0 where
   pub count-is : x .n ≡ 0
   pub card-is : x .card ≡ c
 
--- served: no right, none current, no challenge, nothing waits; all else stays
+-- served: no right, none current, back in the root, no challenge, nothing waits; all else stays
 pub record Ended (c : Card) (x : Answer) : Type 0 where
   pub outcome-is : x .outcome ≡ 0
   pub count-is : x .n ≡ 0
   pub no-rights : (n : ℕ) → rightNo (x .card) n ≡ 0
   pub none-current : x .card .session .current ≡ 0
+  pub in-root : x .card .session .folder ≡ 0
   pub no-challenge : Challenge (x .card) []
   pub none-wait : waiting (x .card) ≡ []
   pub credentials-are : x .card .credentials ≡ c .credentials
@@ -102,15 +105,29 @@ pub record Ended (c : Card) (x : Answer) : Type 0 where
 abbrev pub ResetAnswers : Type 0
 ResetAnswers = (c : Card) (area : List ℕ) → Ask (NotReset c (reset c area)) (length area ≡ 4096) 2 (Ask (NotReset c (reset c area)) (sound c area ≡ true) 4 (Ended c (reset c area)))
 
+-- 9000, or 61 and a number, which counts as 9000
+abbrev pub EndsWell : Stepped → Type 0
+EndsWell s = (s .sw ≡ 0x9000) ⊎ ((0x6100 ≤ s .sw) × (s .sw ≤ 0x61FF))
+
 -- ---- the current file: only SELECT, CREATE FILE, and a read, update or append changes it, one that ends 9000 or 61xx
 pub record Turns (k : Command) (s : Stepped) : Type 0 where
   pub by-bytes : ((k .cla ≡ 0x00) × OneOf (k .ins) (0xA4 ∷ 0xB0 ∷ 0xD6 ∷ 0xB2 ∷ 0xDC ∷ 0xE2 ∷ [])) ⊎ ((k .cla ≡ 0x80) × (k .ins ≡ 0xE0))
-  pub served : (s .sw ≡ 0x9000) ⊎ ((0x6100 ≤ s .sw) × (s .sw ≤ 0x61FF))
+  pub served : EndsWell s
 
 abbrev pub CurrentStays : Type 0
 CurrentStays =
     (c : Card) (area cmd random : List ℕ)
     → (step c area cmd random .card .session .current ≡ c .session .current) ⊎ Turns (framed cmd) (step c area cmd random)
+
+-- and the current directory: only SELECT
+pub record Enters (k : Command) (s : Stepped) : Type 0 where
+  pub by-bytes : (k .cla ≡ 0x00) × (k .ins ≡ 0xA4)
+  pub served : EndsWell s
+
+abbrev pub FolderStays : Type 0
+FolderStays =
+    (c : Card) (area cmd random : List ℕ)
+    → (step c area cmd random .card .session .folder ≡ c .session .folder) ⊎ Enters (framed cmd) (step c area cmd random)
 
 -- ---- the rights byte, both ways: the check of a right passes exactly where what the byte asks is held
 abbrev pub RightsBothWays : Type 0

@@ -34,27 +34,36 @@ pub record Challenge (x : Card) (ch : List ℕ) : Type 0 where
   pub length-is : x .session .len ≡ length ch
   pub bytes-are : x .session .challenge ≡ ch ++ replicate (16 - length ch) 0
 
--- no credential, right or file is touched, nor a byte of the area: only the current file and the challenge are as said
-pub record Left (c : Card) (area : List ℕ) (sw : ℕ) (d : List ℕ) (current : ℕ) (ch : List ℕ) (s : Stepped) : Type 0 where
+-- no credential, right, file or directory is touched, nor a byte of the area: only the current directory, the current file and the challenge are as said
+pub record LeftIn (c : Card) (area : List ℕ) (sw : ℕ) (d : List ℕ) (folder current : ℕ) (ch : List ℕ) (s : Stepped) : Type 0 where
   pub says : Says c sw d s
   pub credentials-are : s .card .credentials ≡ c .credentials
   pub rights-are : s .card .session .rights ≡ c .session .rights
   pub directory-is : s .card .directory ≡ c .directory
   pub area-is : s .area ≡ area
+  pub folder-is : s .card .session .folder ≡ folder
   pub current-is : s .card .session .current ≡ current
   pub challenge-is : Challenge (s .card) ch
+
+-- the current directory stays
+abbrev pub Left : Card → List ℕ → ℕ → List ℕ → ℕ → List ℕ → Stepped → Type 0
+Left c area sw d current ch s = LeftIn c area sw d (c .session .folder) current ch s
 
 -- refused: this word and no data, and nothing changes but that the challenge is dropped and nothing waits
 abbrev pub Refused : Card → List ℕ → ℕ → Stepped → Type 0
 Refused c area sw s = Left c area sw [] (c .session .current) [] s
 
--- file n is written and becomes current: it keeps its FID, type, sizes and rights, and all else stays, every other file and each byte outside of this one
+-- file n is written and becomes current: it keeps its directory, FID, type, sizes and rights, and all else stays, every other file, the directories and each
+-- byte outside of this one
 pub record Written (c : Card) (area : List ℕ) (n : ℕ) (s : Stepped) : Type 0 where
   pub says : Says c 0x9000 [] s
   pub credentials-are : s .card .credentials ≡ c .credentials
   pub rights-are : s .card .session .rights ≡ c .session .rights
+  pub folder-is : s .card .session .folder ≡ c .session .folder
   pub current-is : s .card .session .current ≡ n
   pub challenge-is : Challenge (s .card) []
+  pub folders-are : s .card .directory .folders ≡ c .directory .folders
+  pub as-many-folders : s .card .directory .number ≡ c .directory .number
   pub as-many : s .card .directory .count ≡ c .directory .count
   pub label-is : labelOf (fileNo (s .card) n) ≡ labelOf (fileNo c n)
   pub others : (m : ℕ) → 1 ≤ m → (m ≡ n → ⊥) → (fileNo (s .card) m ≡ fileNo c m) × (bytesNo (s .card) (s .area) m ≡ bytesNo c area m)
@@ -81,6 +90,7 @@ pub record Credited (c : Card) (area : List ℕ) (sw n : ℕ) (value : List ℕ)
   pub others : (m : ℕ) → (m ≡ n → ⊥) → (credentialNo (s .card) m ≡ credentialNo c m) × (rightNo (s .card) m ≡ rightNo c m)
   pub directory-is : s .card .directory ≡ c .directory
   pub area-is : s .area ≡ area
+  pub folder-is : s .card .session .folder ≡ c .session .folder
   pub current-is : s .card .session .current ≡ c .session .current
   pub challenge-is : Challenge (s .card) []
 

@@ -1,20 +1,20 @@
--- A state is sound when all this holds: document 01's list, with what R-1, R-5 and R-6 add to it, over the state's fields. The rules' test says just that.
-use Prim.Native.Nat.{ℕ, _+_, _*_, _≤_, _<_}
+-- A state is sound when all this holds: document 01's list, with what R-1, R-5, R-6 and R-7 add to it, over the state's fields. The rules' test says just that.
+use Prim.Native.Nat.{ℕ, _+_, _*_, _%_, _≤_, _<_}
 use mathlib.Core.Bool.{true}
 use mathlib.Core.List.{List, [], _∷_}
 use mathlib.Core.Logic.{_⊎_}
 use mathlib.Core.Path.{_≡_}
 use lib.ListN.{length, take, drop}
 use Rattle.files.specs.declared.File.{File}
-use Rattle.files.specs.State.{blankFile}
+use Rattle.files.specs.State.{blankFile, blankFolder}
 use Rattle.rules.specs.declared.Credential.{Credential}
 use Rattle.rules.specs.declared.Card.{Card}
 use Rattle.rules.specs.Words.{byte}
 use Rattle.rules.specs.Sound.{sound}
-use Rattle.demands.specs.Held.{fileNo, IsFile, sizeOfFirst, bytesNo, bytesUsed, credentialNo, rightNo, labelOf, labelNo}
-use Rattle.demands.specs.Ledger.{sizeOf, sfiOf}
+use Rattle.demands.specs.Held.{fileNo, IsFile, sizeOfFirst, bytesNo, folderNo, IsFolder, tagNo, Within, bytesUsed, credentialNo, rightNo, labelOf, labelNo}
+use Rattle.demands.specs.Ledger.{Tag, sizeOf, fidOf, sfiOf, fidOfTag}
 use Rattle.served.specs.Calls.{GoodPin}
-use Rattle.served.specs.Answers.{GoodContents}
+use Rattle.served.specs.Answers.{GoodRight, GoodContents}
 
 -- of m bytes the first n are used, and every other is 00
 pub record Padded (n m : ℕ) (bytes : List ℕ) : Type 0 where
@@ -46,7 +46,7 @@ pub data Parted : List ℕ → Type 0 where
   nothing-left : Parted []
   one-more : (x : ℕ) (more : List ℕ) → 1 ≤ x → x ≤ 178 → x ≤ length more → Parted (drop x more) → Parted (x ∷ more)
 
--- at most 16 files, whose bytes lie in the area; no SFI twice; places past the last file are blank
+-- at most 16 files, whose bytes lie in the area; no SFI twice in a directory, which exists; places past the last file are blank
 pub record SoundFiles (c : Card) (area : List ℕ) : Type 0 where
   pub places : length (c .directory .files) ≡ 16
   pub few : c .directory .count ≤ 16
@@ -54,20 +54,38 @@ pub record SoundFiles (c : Card) (area : List ℕ) : Type 0 where
   pub inside : sizeOfFirst (c .directory .files) (c .directory .count) ≤ length area
   pub each : (n : ℕ) → IsFile c n → SoundFile (fileNo c n)
   pub unused : (n : ℕ) → c .directory .count < n → n ≤ 16 → fileNo c n ≡ blankFile
-  pub one-sfi : (n m : ℕ) → IsFile c n → IsFile c m → sfiOf (labelNo c n) ≡ sfiOf (labelNo c m) → n ≡ m
+  pub housed : (n : ℕ) → IsFile c n → fileNo c n .folder ≤ c .directory .number
+  pub one-sfi : (folder n m : ℕ) → Within c folder n → Within c folder m → sfiOf (labelNo c n) ≡ sfiOf (labelNo c m) → n ≡ m
   pub parted : (n : ℕ) → IsFile c n → fileNo c n .kind ≡ 0x2C → Parted (take (bytesUsed (fileNo c n)) (bytesNo c area n))
+
+-- a directory: the low five bits of its FID are 1 to 30, and its creation right is a good one
+pub record SoundFolder (x : Tag) : Type 0 where
+  pub fid : (1 ≤ fidOfTag x % 32) × (fidOfTag x % 32 ≤ 30)
+  pub right : GoodRight (x .create)
+
+-- at most four directories; no FID twice, among them or with a file in the root; places past the last directory are blank
+pub record SoundFolders (c : Card) : Type 0 where
+  pub places : length (c .directory .folders) ≡ 4
+  pub few : c .directory .number ≤ 4
+  pub each : (n : ℕ) → IsFolder c n → SoundFolder (tagNo c n)
+  pub unused : (n : ℕ) → c .directory .number < n → n ≤ 4 → folderNo c n ≡ blankFolder
+  pub one-fid : (n m : ℕ) → IsFolder c n → IsFolder c m → fidOfTag (tagNo c n) ≡ fidOfTag (tagNo c m) → n ≡ m
+  pub no-file : (n m : ℕ) → IsFolder c n → Within c 0 m → fidOfTag (tagNo c n) ≡ fidOf (labelNo c m) → ⊥
 
 -- how many bytes wait
 abbrev pub waitNo : Card → ℕ
 waitNo c = c .response .count1 * 256 + c .response .count2
 
--- the current file exists; a challenge of 4, 8 or 16 bytes or none; at most 256 bytes wait, and none in mode 0
+-- the current directory exists, and the current file lies in it; a challenge of 4, 8 or 16 bytes or none; at most 256 bytes wait, and none in mode 0
 pub record Sound (c : Card) (area : List ℕ) : Type 0 where
   pub three : length (c .credentials) ≡ 3
   pub three-rights : length (c .session .rights) ≡ 3
   pub credentials : (n : ℕ) → n < 3 → SoundCredential n (credentialNo c n) (rightNo c n)
   pub files : SoundFiles c area
+  pub folders : SoundFolders c
   pub current : c .session .current ≤ c .directory .count
+  pub current-folder : c .session .folder ≤ c .directory .number
+  pub current-lies : 1 ≤ c .session .current → fileNo c (c .session .current) .folder ≡ c .session .folder
   pub challenge : Padded (c .session .len) 16 (c .session .challenge)
   pub challenge-length : (c .session .len ≡ 0) ⊎ ((c .session .len ≡ 4) ⊎ ((c .session .len ≡ 8) ⊎ (c .session .len ≡ 16)))
   pub mode : c .response .mode ≤ 1

@@ -4,26 +4,27 @@
 use mathlib.Core.Bool.{Bool, true}
 use mathlib.Core.List.{List}
 use mathlib.Core.Path.{_≡_, refl}
-use Rattle.files.specs.Words.{allBelow}
+use Rattle.files.specs.Words.{allBelow, seek}
 use Rattle.files.specs.Part.{part, over}
 use Rattle.files.specs.Types.{count, recordLength, size, goodShape}
 use Rattle.files.specs.Rights.{goodRights}
-use Rattle.files.specs.Directory.{used, startAt, extent, seek, findFid}
+use Rattle.files.specs.Directory.{used, startAt, extent, findFid, findFolder}
 use Rattle.files.specs.Record.{bytesUsed, soundHeld, soundUsed, partedFile}
 use Rattle.files.specs.Walk.{stands, past, walk, parted}
-use Rattle.files.specs.Create.{goodContents}
-use Rattle.files.specs.Sound.{soundFile, unusedPlace, sfisDiffer, soundDirectory, partedArea}
+use Rattle.files.specs.Create.{goodContents, apart, goodFolder}
+use Rattle.files.specs.Sound.{soundFile, unusedPlace, sfisDiffer, unusedFolder, soundFolder, soundFolders, soundDirectory, partedArea}
 use Rattle.rules.specs.Words.{allOf, same}
-use Rattle.rules.specs.Sound.{goodPin, goodValue, soundValue, soundTries, soundCredential, soundChallenge, soundResponse, soundState, sound}
+use Rattle.rules.specs.Sound.{goodPin, goodValue, soundValue, soundTries, soundCredential, soundChallenge, soundResponse, soundCurrent, soundState, sound}
 use Rattle.digits.specs.Digits.{digitsIn, decimal, hexDigit, hexOf, orDash, value}
-use Rattle.texts.specs.Text.{line, credentialLine, sessionLine, heldOrUsed, fileLine, rows, contents, filesText, credentialLines, text}
-use Rattle.texts.specs.Reading.{skip, pair, hexIn, numberFrom, number, small, triesIn, credentialIn, sessionIn, responseIn, fileIn, pairs, pastRow, rowsIn, behind, filesIn, bytesIn, laid, directoryOf, cardIn, areaIn}
+use Rattle.texts.specs.Text.{line, credentialLine, sessionLine, folderLine, folderLines, folderCount, heldOrUsed, fileLine, rows, contents, filesText, credentialLines, text}
+use Rattle.texts.specs.Reading.{skip, pair, hexIn, numberFrom, number, small, triesIn, credentialIn, homeIn, sessionIn, responseIn, fileIn, pairs, pastRow, rowsIn, behind, filesIn, bytesIn, folderIn, foldersIn, laid, foldered, withFiles, foldersRead, filesPart, cardIn, areaIn}
 use Rattle.texts.specs.Calls.{toText, accepted, fromText}
 use Rattle.text_examples.specs.Table.{Row, allHold}
 use Rattle.text_examples.specs.Examples.{documented, states, sizes, counts}
 use Rattle.text_examples.specs.FieldRanges.{every-number, every-byte, every-digit, credentials-written, sessions-written}
 use Rattle.text_examples.specs.FileRanges.{file-lines, line-counts, contents-written, files-written}
-use Rattle.text_examples.specs.Longest.{longest-text}
+use Rattle.text_examples.specs.Longest.{longest-text, longest-new}
+use Rattle.text_examples.specs.Folders.{in-root, two-firms, folder-lines, bad-folders}
 use Rattle.text_examples.specs.Refusals.{writer-refuses, reader-refuses, unsound-texts, other-forms}
 use Rattle.text_examples.specs.Waiting.{waiting-written, waiting-read, more-read, modes-read}
 use Rattle.text_examples.specs.Spoilt.{credentials-spoilt, session-spoilt, file-spoilt, cut-and-more}
@@ -31,7 +32,7 @@ use Rattle.text_examples.specs.Rows.{table, EachHolds}
 
 -- whether rows hold, by computation: to unfold this is to unfold every definition that a row may need
 computed : List Row → Bool
-unfolding allBelow part over count recordLength size goodShape goodRights used startAt extent seek findFid bytesUsed soundHeld soundUsed partedFile stands past walk parted goodContents soundFile unusedPlace sfisDiffer soundDirectory partedArea allOf same goodPin goodValue soundValue soundTries soundCredential soundChallenge soundResponse soundState sound digitsIn decimal hexDigit hexOf orDash value line credentialLine sessionLine heldOrUsed fileLine rows contents filesText credentialLines text skip pair hexIn numberFrom number small triesIn credentialIn sessionIn responseIn fileIn pairs pastRow rowsIn behind filesIn bytesIn laid directoryOf cardIn areaIn toText accepted fromText
+unfolding allBelow part over count recordLength size goodShape goodRights used startAt extent seek findFid findFolder bytesUsed soundHeld soundUsed partedFile stands past walk parted goodContents apart goodFolder soundFile unusedPlace sfisDiffer unusedFolder soundFolder soundFolders soundDirectory partedArea allOf same goodPin goodValue soundValue soundTries soundCredential soundChallenge soundResponse soundCurrent soundState sound digitsIn decimal hexDigit hexOf orDash value line credentialLine sessionLine folderLine folderLines folderCount heldOrUsed fileLine rows contents filesText credentialLines text skip pair hexIn numberFrom number small triesIn credentialIn homeIn sessionIn responseIn fileIn pairs pastRow rowsIn behind filesIn bytesIn folderIn foldersIn laid foldered withFiles foldersRead filesPart cardIn areaIn toText accepted fromText
 computed = allHold
 
 pub documented-hold : allHold documented ≡ true
@@ -106,6 +107,26 @@ pub longest-text-hold : allHold longest-text ≡ true
 unfolding computed
 longest-text-hold = refl
 
+pub longest-new-hold : allHold longest-new ≡ true
+unfolding computed
+longest-new-hold = refl
+
+pub in-root-hold : allHold in-root ≡ true
+unfolding computed
+in-root-hold = refl
+
+pub two-firms-hold : allHold two-firms ≡ true
+unfolding computed
+two-firms-hold = refl
+
+pub folder-lines-hold : allHold folder-lines ≡ true
+unfolding computed
+folder-lines-hold = refl
+
+pub bad-folders-hold : allHold bad-folders ≡ true
+unfolding computed
+bad-folders-hold = refl
+
 pub writer-refuses-hold : allHold writer-refuses ≡ true
 unfolding computed
 writer-refuses-hold = refl
@@ -140,4 +161,4 @@ cut-and-more-hold = refl
 
 pub table-holds : EachHolds table
 table-holds =
-    (documented-hold, (states-hold, (sizes-hold, (counts-hold, (every-number-hold, (every-byte-hold, (every-digit-hold, (credentials-written-hold, (sessions-written-hold, (file-lines-hold, (line-counts-hold, (contents-written-hold, (files-written-hold, (waiting-written-hold, (waiting-read-hold, (more-read-hold, (modes-read-hold, (longest-text-hold, (writer-refuses-hold, (reader-refuses-hold, (unsound-texts-hold, (other-forms-hold, (credentials-spoilt-hold, (session-spoilt-hold, (file-spoilt-hold, (cut-and-more-hold, tt))))))))))))))))))))))))))
+    (documented-hold, (states-hold, (sizes-hold, (counts-hold, (every-number-hold, (every-byte-hold, (every-digit-hold, (credentials-written-hold, (sessions-written-hold, (file-lines-hold, (line-counts-hold, (contents-written-hold, (files-written-hold, (waiting-written-hold, (waiting-read-hold, (more-read-hold, (modes-read-hold, (longest-text-hold, (longest-new-hold, (in-root-hold, (two-firms-hold, (folder-lines-hold, (bad-folders-hold, (writer-refuses-hold, (reader-refuses-hold, (unsound-texts-hold, (other-forms-hold, (credentials-spoilt-hold, (session-spoilt-hold, (file-spoilt-hold, (cut-and-more-hold, tt)))))))))))))))))))))))))))))))

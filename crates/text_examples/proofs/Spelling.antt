@@ -9,9 +9,11 @@ use lib.Dec.{eqb}
 use lib.ListN.{length, take, drop, length-take, length-drop}
 use borrow.Author.Tests.{eqb-true}
 use Rattle.files.specs.declared.File.{File}
+use Rattle.files.specs.declared.Folder.{Folder}
+use Rattle.files.specs.declared.Directory.{Directory}
 use Rattle.files.specs.Words.{allBelow, isZero}
 use Rattle.files.specs.Types.{size}
-use Rattle.files.specs.Directory.{used, file, fileAt}
+use Rattle.files.specs.Directory.{used, file, fileAt, folderAt}
 use Rattle.files.proofs.Checks.{clash, both, join, split, below}
 use Rattle.rules.specs.declared.Credential.{Credential}
 use Rattle.rules.specs.declared.Card.{Card}
@@ -20,9 +22,9 @@ use Rattle.rules.specs.State.{credential, rightKept, valueOf, challenge, mode, 
 use Rattle.digits.specs.Digits.{newline, ended, lastDigit, decimal, hexDigit, hexOf, orDash}
 use Rattle.digits.proofs.Decimal.{decimal-some}
 use Rattle.digits.proofs.Written.{hexOf-length}
-use Rattle.texts.specs.Text.{line, credentialLine, credentialLines, currentFid, sessionLine, fidBytes, createBytes, heldOrUsed, fileLine, rows, linesFor, contents, filesText, text}
-use Rattle.texts.specs.Laws.{Bytes, FileBytes, CardBytes}
-use Rattle.texts.proofs.Cards.{bytes-nil, bytes-cons, fid-bytes}
+use Rattle.texts.specs.Text.{Form, line, credentialLine, credentialLines, currentFid, folderBytes, homeFid, home, sessionLine, folderLine, folderLines, folderCount, fidBytes, createBytes, heldOrUsed, fileLine, rows, linesFor, contents, filesText, text}
+use Rattle.texts.specs.Laws.{Bytes, FileBytes, FolderBytes, CardBytes}
+use Rattle.texts.proofs.Cards.{bytes-nil, bytes-cons, fid-bytes, folder-bytes, create-bytes}
 use Rattle.texts.proofs.Contents.{bytes-drop, bytes-take}
 use Rattle.texts.proofs.Digits.{all-digits}
 use Rattle.texts.proofs.Exact.{accepted-text}
@@ -121,27 +123,45 @@ contents-on : (bs r : List ℕ) → Bytes bs → spelt 10 (contents bs ++ r) ≡
 unfolding contents
 contents-on bs r h = rows-on (linesFor (length bs)) bs r (omega arith) h
 
+-- a directory's FID, in the new form
+home-bytes : (d : Directory) (n : ℕ) → ((i : ℕ) → FolderBytes (folderAt (d .folders) i)) → Bytes (homeFid d n)
+home-bytes d n b =
+    split Bytes (isZero n) (λ _. bytes-cons 0x3F (0x00 ∷ []) (omega arith) (bytes-cons 0x00 [] (omega arith) bytes-nil)) (λ _. folder-bytes (folderAt (d .folders) (n - 1)) (b (n - 1)))
+
+home-words : (form : Form) (d : Directory) (n : ℕ) → ((i : ℕ) → FolderBytes (folderAt (d .folders) i)) → Words (home form d n)
+home-words true d n b = (dash-word (homeFid d n) (home-bytes d n b), tt)
+home-words false d n b = tt
+
 -- files
-create-bytes : (f : File) → FileBytes f → Bytes (createBytes f)
-create-bytes f b =
-    bytes-cons (f .kind) (f .size1 ∷ f .size2 ∷ f .read ∷ f .write ∷ []) (b .kind)
-    (bytes-cons (f .size1) (f .size2 ∷ f .read ∷ f .write ∷ []) (b .size1)
-    (bytes-cons (f .size2) (f .read ∷ f .write ∷ []) (b .size2) (bytes-cons (f .read) (f .write ∷ []) (b .read) (bytes-cons (f .write) [] (b .write) bytes-nil))))
+module _ (form : Form) (d : Directory) (x : (i : ℕ) → FolderBytes (folderAt (d .folders) i)) where
+  file-on : (f : File) (r : List ℕ) → FileBytes f → spelt 10 (fileLine form d f ++ r) ≡ spelt 10 r
+  unfolding fileLine
+  file-on f r b =
+      line-on (orDash (fidBytes f)) (orDash (createBytes f) ∷ decimal (heldOrUsed f) ∷ decimal (f .newest) ∷ home form d (f .folder)) 10 r
+      (dash-word (fidBytes f) (fid-bytes f b), (dash-word (createBytes f) (create-bytes f b), (decimal-word (heldOrUsed f), (decimal-word (f .newest), home-words form d (f .folder) x))))
 
-file-on : (f : File) (r : List ℕ) → FileBytes f → spelt 10 (fileLine f ++ r) ≡ spelt 10 r
-unfolding fileLine
-file-on f r b =
-    line-on (orDash (fidBytes f)) (orDash (createBytes f) ∷ decimal (heldOrUsed f) ∷ decimal (f .newest) ∷ []) 10 r
-    (dash-word (fidBytes f) (fid-bytes f b), (dash-word (createBytes f) (create-bytes f b), (decimal-word (heldOrUsed f), (decimal-word (f .newest), tt))))
+  files-spelt : (n : ℕ) (files : List File) (area : List ℕ) → ((i : ℕ) → FileBytes (fileAt files i)) → Bytes area → spelt 10 (filesText form d (take n files) area) ≡ true
+  unfolding filesText
+  files-spelt zero files area h k = refl
+  files-spelt (suc n) [] area h k = refl
+  files-spelt (suc n) (f ∷ fs) area h k =
+      file-on f (contents (take (size f) area) ++ filesText form d (take n fs) (drop (size f) area)) (h 0)
+      ∙ contents-on (take (size f) area) (filesText form d (take n fs) (drop (size f) area)) (bytes-take (size f) area k)
+      ∙ files-spelt n fs (drop (size f) area) (λ i. h (suc i)) (bytes-drop (size f) area k)
 
-files-spelt : (n : ℕ) (files : List File) (area : List ℕ) → ((i : ℕ) → FileBytes (fileAt files i)) → Bytes area → spelt 10 (filesText (take n files) area) ≡ true
-unfolding filesText
-files-spelt zero files area h k = refl
-files-spelt (suc n) [] area h k = refl
-files-spelt (suc n) (f ∷ fs) area h k =
-    file-on f (contents (take (size f) area) ++ filesText (take n fs) (drop (size f) area)) (h 0)
-    ∙ contents-on (take (size f) area) (filesText (take n fs) (drop (size f) area)) (bytes-take (size f) area k)
-    ∙ files-spelt n fs (drop (size f) area) (λ i. h (suc i)) (bytes-drop (size f) area k)
+-- directories
+folder-on : (x : Folder) (r : List ℕ) → FolderBytes x → spelt 10 (folderLine x ++ r) ≡ spelt 10 r
+unfolding folderLine
+folder-on x r b =
+    line-on (orDash (folderBytes x)) (orDash (x .right ∷ []) ∷ []) 10 r
+    (dash-word (folderBytes x) (folder-bytes x b), (dash-word (x .right ∷ []) (bytes-cons (x .right) [] (b .right) bytes-nil), tt))
+
+folders-on : (n : ℕ) (folders : List Folder) (r : List ℕ) → ((i : ℕ) → FolderBytes (folderAt folders i)) → spelt 10 (folderLines (take n folders) ++ r) ≡ spelt 10 r
+unfolding folderLines
+folders-on zero folders r h = refl
+folders-on (suc n) [] r h = refl
+folders-on (suc n) (x ∷ xs) r h =
+    rw (append-assoc (folderLine x) (folderLines (take n xs)) r) (folder-on x (folderLines (take n xs) ++ r) (h 0) ∙ folders-on n xs r (λ i. h (suc i)))
 
 -- the card
 credential-on : (x : Credential) (r : List ℕ) → Bytes (x .value) → spelt 10 (credentialLine x ++ r) ≡ spelt 10 r
@@ -150,7 +170,7 @@ credential-on x r h =
     line-on (orDash (valueOf x)) (decimal (x .tries .limit) ∷ decimal (x .tries .left) ∷ []) 10 r
     (dash-word (valueOf x) (bytes-take (x .len) (x .value) h), (decimal-word (x .tries .limit), (decimal-word (x .tries .left), tt)))
 
-module _ (c : Card) (b : CardBytes c) where
+module _ (form : Form) (c : Card) (b : CardBytes c) where
   credentials-on : (r : List ℕ) → spelt 10 (credentialLines c ++ r) ≡ spelt 10 r
   unfolding credentialLines
   credentials-on r =
@@ -167,11 +187,11 @@ module _ (c : Card) (b : CardBytes c) where
       split Bytes (isZero (c .session .current)) (λ _. bytes-nil)
       (λ _. fid-bytes (file (c .directory) (c .session .current)) (b .files (c .session .current - 1)))
 
-  session-on : (r : List ℕ) → spelt 10 (sessionLine c ++ r) ≡ spelt 10 r
+  session-on : (r : List ℕ) → spelt 10 (sessionLine form c ++ r) ≡ spelt 10 r
   unfolding sessionLine
   session-on r =
       line-on (decimal (rightKept c 0))
-      (decimal (rightKept c 1) ∷ decimal (rightKept c 2) ∷ orDash (currentFid (c .directory) (c .session .current)) ∷ orDash (challenge c) ∷ decimal (mode c) ∷ orDash (waiting c) ∷ []) 10 r (
+      (decimal (rightKept c 1) ∷ decimal (rightKept c 2) ∷ orDash (currentFid (c .directory) (c .session .current)) ∷ orDash (challenge c) ∷ decimal (mode c) ∷ orDash (waiting c) ∷ home form (c .directory) (c .session .folder)) 10 r (
         decimal-word (rightKept c 0),
         (
           decimal-word (rightKept c 1),
@@ -181,20 +201,22 @@ module _ (c : Card) (b : CardBytes c) where
               dash-word (currentFid (c .directory) (c .session .current)) current-bytes,
               (
                 dash-word (challenge c) (bytes-take (c .session .len) (c .session .challenge) (b .challenge)),
-                (decimal-word (mode c), (dash-word (waiting c) (bytes-take (waitCount (c .response)) (c .response .bytes) (b .response .bytes)), tt)),
+                (decimal-word (mode c), (dash-word (waiting c) (bytes-take (waitCount (c .response)) (c .response .bytes) (b .response .bytes)), home-words form (c .directory) (c .session .folder) (b .folders))),
               ),
             ),
           ),
         ),
       )
 
-  text-spelt : (area : List ℕ) → Bytes area → spelt 10 (text c area) ≡ true
+  text-spelt : (area : List ℕ) → Bytes area → spelt 10 (text form c area) ≡ true
   unfolding text
   text-spelt area k =
-      let files = filesText (take (used (c .directory)) (c .directory .files)) area in
-      credentials-on (sessionLine c ++ files) ∙ session-on files ∙ files-spelt (used (c .directory)) (c .directory .files) area (b .files) k
+      let d = c .directory in
+      let files = filesText form (c .directory) (take (used (c .directory)) (c .directory .files)) area in
+      let folders = folderLines (take (folderCount (c .directory)) (c .directory .folders)) ++ files in
+      credentials-on (sessionLine form c ++ folders) ∙ session-on folders ∙ folders-on (folderCount d) (d .folders) files (b .folders) ∙ files-spelt form d (b .folders) (used d) (d .files) area (b .files) k
 
-pub each-spelt : EachSpelt
-each-spelt s lent z =
-    let t = accepted-text s lent z in
-    ap (spelt 10) (sym (t .text-is)) ∙ text-spelt _ (t .card-is .card-bytes) _ (t .card-is .area-bytes)
+pub each-spelt : (form : Form) → EachSpelt form
+each-spelt form s lent z =
+    let t = accepted-text form s lent z in
+    ap (spelt 10) (sym (t .text-is)) ∙ text-spelt form _ (t .card-is .card-bytes) _ (t .card-is .area-bytes)

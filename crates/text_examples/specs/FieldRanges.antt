@@ -8,7 +8,7 @@ use Rattle.files.specs.declared.File.{File}
 use Rattle.files.specs.State.{newFile}
 use Rattle.rules.specs.declared.Credential.{Credential}
 use Rattle.digits.specs.Digits.{decimal, hexOf, orDash, value, hexPair}
-use Rattle.texts.specs.Text.{credentialLine, credentialLines, sessionLine}
+use Rattle.texts.specs.Text.{new, credentialLine, credentialLines, sessionLine}
 use Rattle.text_examples.specs.Bytes.{chars, hex, equal}
 use Rattle.text_examples.specs.Table.{Row, swept}
 use Rattle.text_examples.specs.Cards.{credential, session, waits, told, key, holder, card}
@@ -90,8 +90,8 @@ session-is rights place challenge said =
     let u = rights % 2 in
     let c = holder (session d a u place challenge) sixteen in
     let some = rights ∷ place ∷ [] in
-    equal (sessionLine c) (fields ((digit d ∷ []) ∷ (digit a ∷ []) ∷ (digit u ∷ []) ∷ fid-of place ∷ said ∷ chars "0" ∷ chars "-" ∷ []))
-    && equal (sessionLine (waits 1 some c)) (fields ((digit d ∷ []) ∷ (digit a ∷ []) ∷ (digit u ∷ []) ∷ fid-of place ∷ said ∷ chars "1" ∷ digits some ∷ []))
+    equal (sessionLine new c) (fields ((digit d ∷ []) ∷ (digit a ∷ []) ∷ (digit u ∷ []) ∷ fid-of place ∷ said ∷ chars "0" ∷ chars "-" ∷ chars "3F00" ∷ []))
+    && equal (sessionLine new (waits 1 some c)) (fields ((digit d ∷ []) ∷ (digit a ∷ []) ∷ (digit u ∷ []) ∷ fid-of place ∷ said ∷ chars "1" ∷ digits some ∷ chars "3F00" ∷ []))
 
 -- with each of the eight sets of rights
 abbrev pub with-rights : ℕ → List ℕ → List ℕ → Row

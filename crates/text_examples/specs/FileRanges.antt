@@ -6,18 +6,19 @@ use mathlib.Core.List.{List, [], _∷_, _++_}
 use lib.Dec.{eqb, leb}
 use lib.ListN.{take, drop, replicate}
 use Rattle.files.specs.declared.File.{File}
-use Rattle.files.specs.State.{newFile, withNewest, withUsed}
+use Rattle.files.specs.State.{newFile, withNewest, withUsed, noFiles}
 use Rattle.rules.specs.Sound.{sound}
-use Rattle.texts.specs.Text.{heldOrUsed, fileLine, linesFor, contents, text}
+use Rattle.texts.specs.Text.{new, heldOrUsed, fileLine, linesFor, contents, text}
 use Rattle.text_examples.specs.Bytes.{chars, lines, equal}
 use Rattle.text_examples.specs.Table.{Row, area-of, swept}
 use Rattle.text_examples.specs.Cards.{session, told, holder}
 use Rattle.text_examples.specs.Own.{counting, counted, digits, fields, dump}
 use Rattle.text_examples.specs.FieldRanges.{sixteen}
 
--- a file's line, by its seven bytes and its two counts
+-- the line of a file in the root, by its seven bytes and its two counts
 abbrev pub line-is : File → List ℕ → List ℕ → List ℕ → Bool
-line-is f made n newest = equal (fileLine f) (fields (digits (take 2 made) ∷ digits (drop 2 made) ∷ n ∷ newest ∷ []))
+line-is f made n newest =
+    equal (fileLine new noFiles f) (fields (digits (take 2 made) ∷ digits (drop 2 made) ∷ n ∷ newest ∷ chars "3F00" ∷ []))
 
 -- a new file of these bytes
 abbrev pub new-is : ℕ → ℕ → ℕ → ℕ → ℕ → ℕ → ℕ → Bool
@@ -60,14 +61,14 @@ abbrev pub contents-written : List Row
 contents-written = swept 70 (λ n. is-dump (take n told)) ∷ []
 
 abbrev pub front : List ℕ
-front = lines ("000102030405060708090A0B0C0D0E0F\t128\t128" ∷ "3837363534333231\t5\t5" ∷ "313233343536\t3\t3" ∷ "0\t0\t0\t-\t-\t0\t-" ∷ [])
+front = lines ("000102030405060708090A0B0C0D0E0F\t128\t128" ∷ "3837363534333231\t5\t5" ∷ "313233343536\t3\t3" ∷ "0\t0\t0\t-\t-\t0\t-\t3F00" ∷ [])
 
 -- line and contents of the sixteen files: the first of four has one byte, the others have two
 abbrev pub their-text : ℕ → List File → List ℕ → List ℕ
 their-text i [] area = []
 their-text i (f ∷ fs) area =
     let n : ℕ = cond (eqb (i % 4) 0) 1 2 in
-    fields (digits (f .fid1 ∷ f .fid2 ∷ []) ∷ digits (f .kind ∷ f .size1 ∷ f .size2 ∷ f .read ∷ f .write ∷ []) ∷ chars "0" ∷ chars "0" ∷ [])
+    fields (digits (f .fid1 ∷ f .fid2 ∷ []) ∷ digits (f .kind ∷ f .size1 ∷ f .size2 ∷ f .read ∷ f .write ∷ []) ∷ chars "0" ∷ chars "0" ∷ chars "3F00" ∷ [])
     ++ dump (take n area) ++ their-text (suc i) fs (drop n area)
 
 -- so many records of 178 bytes, each behind its length
@@ -84,14 +85,14 @@ abbrev pub one-file : File → List ℕ → String → Row
 one-file f bytes l =
     swept 1 (λ o.
     let c = holder (session 0 0 0 0 []) (f ∷ []) in
-    sound c (area-of 0 bytes) && equal (text c (area-of 0 bytes)) (front ++ lines (l ∷ []) ++ dump bytes))
+    sound c (area-of 0 bytes) && equal (text new c (area-of 0 bytes)) (front ++ lines (l ∷ []) ++ dump bytes))
 
 abbrev pub files-written : List Row
 files-written =
     -- each number of files
-    swept 17 (λ n. equal (text (holder (session 0 0 0 0 []) (take n sixteen)) told) (front ++ their-text 0 (take n sixteen) told))
+    swept 17 (λ n. equal (text new (holder (session 0 0 0 0 []) (take n sixteen)) told) (front ++ their-text 0 (take n sixteen) told))
     -- the largest ones
-    ∷ one-file (newFile 0xA1 0x02 0x28 16 0 0x00 0x40) told "A102\t2810000040\t0\t0"
-    ∷ one-file (withUsed (newFile 0xA1 0x03 0x2C 16 0 0x40 0x40) 4096) full-notes "A103\t2C10004040\t4096\t0"
-    ∷ one-file (withNewest (newFile 0xA1 0x01 0x2E 254 1 0x40 0x01) 254 253) (take 254 told) "A101\t2EFE014001\t254\t253"
+    ∷ one-file (newFile 0xA1 0x02 0x28 16 0 0x00 0x40) told "A102\t2810000040\t0\t0\t3F00"
+    ∷ one-file (withUsed (newFile 0xA1 0x03 0x2C 16 0 0x40 0x40) 4096) full-notes "A103\t2C10004040\t4096\t0\t3F00"
+    ∷ one-file (withNewest (newFile 0xA1 0x01 0x2E 254 1 0x40 0x01) 254 253) (take 254 told) "A101\t2EFE014001\t254\t253\t3F00"
     ∷ []

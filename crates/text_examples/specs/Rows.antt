@@ -6,7 +6,8 @@ use Rattle.text_examples.specs.Table.{Row, allHold}
 use Rattle.text_examples.specs.Examples.{documented, states, sizes, counts}
 use Rattle.text_examples.specs.FieldRanges.{every-number, every-byte, every-digit, credentials-written, sessions-written}
 use Rattle.text_examples.specs.FileRanges.{file-lines, line-counts, contents-written, files-written}
-use Rattle.text_examples.specs.Longest.{longest-text}
+use Rattle.text_examples.specs.Longest.{longest-text, longest-new}
+use Rattle.text_examples.specs.Folders.{in-root, two-firms, folder-lines, bad-folders}
 use Rattle.text_examples.specs.Refusals.{writer-refuses, reader-refuses, unsound-texts, other-forms}
 use Rattle.text_examples.specs.Waiting.{waiting-written, waiting-read, more-read, modes-read}
 use Rattle.text_examples.specs.Spoilt.{credentials-spoilt, session-spoilt, file-spoilt, cut-and-more}
@@ -17,7 +18,7 @@ table =
     ∷ every-number ∷ every-byte ∷ every-digit ∷ credentials-written ∷ sessions-written
     ∷ file-lines ∷ line-counts ∷ contents-written ∷ files-written
     ∷ waiting-written ∷ waiting-read ∷ more-read ∷ modes-read
-    ∷ longest-text
+    ∷ longest-text ∷ longest-new ∷ in-root ∷ two-firms ∷ folder-lines ∷ bad-folders
     ∷ writer-refuses ∷ reader-refuses ∷ unsound-texts ∷ other-forms
     ∷ credentials-spoilt ∷ session-spoilt ∷ file-spoilt ∷ cut-and-more
     ∷ []

@@ -5,10 +5,11 @@ use mathlib.Core.List.{List, [], _∷_, _++_}
 use lib.Dec.{eqb}
 use lib.ListN.{length, replicate}
 use Rattle.files.specs.declared.File.{File}
+use Rattle.files.specs.declared.Folder.{Folder}
 use Rattle.rules.specs.declared.Credential.{Credential}
 use Rattle.rules.specs.declared.Card.{Card}
 use Rattle.rules.specs.Sound.{sound}
-use Rattle.texts.specs.Text.{text}
+use Rattle.texts.specs.Text.{Form, new, old, text}
 use Rattle.texts.specs.Calls.{Wrote, toText, Got, accepted, fromText}
 use Rattle.text_examples.specs.Bytes.{equal}
 
@@ -20,12 +21,16 @@ credentialsNumbers (x ∷ xs) = x .value ++ (x .len ∷ x .tries .left ∷ x .tr
 abbrev pub filesNumbers : List File → List ℕ
 filesNumbers [] = []
 filesNumbers (f ∷ fs) =
-    f .fid1 ∷ f .fid2 ∷ f .kind ∷ f .size1 ∷ f .size2 ∷ f .read ∷ f .write ∷ f .held ∷ f .newest ∷ f .used1 ∷ f .used2 ∷ filesNumbers fs
+    f .fid1 ∷ f .fid2 ∷ f .kind ∷ f .size1 ∷ f .size2 ∷ f .read ∷ f .write ∷ f .held ∷ f .newest ∷ f .used1 ∷ f .used2 ∷ f .folder ∷ filesNumbers fs
+
+abbrev pub foldersNumbers : List Folder → List ℕ
+foldersNumbers [] = []
+foldersNumbers (x ∷ xs) = x .fid1 ∷ x .fid2 ∷ x .right ∷ foldersNumbers xs
 
 abbrev pub numbers : Card → List ℕ
 numbers c =
-    credentialsNumbers (c .credentials) ++ filesNumbers (c .directory .files) ++ (c .directory .count ∷ []) ++ c .session .rights
-    ++ (c .session .current ∷ c .session .len ∷ []) ++ c .session .challenge
+    credentialsNumbers (c .credentials) ++ filesNumbers (c .directory .files) ++ (c .directory .count ∷ []) ++ foldersNumbers (c .directory .folders) ++ (c .directory .number ∷ []) ++ c .session .rights
+    ++ (c .session .current ∷ c .session .len ∷ c .session .folder ∷ []) ++ c .session .challenge
     ++ (c .response .mode ∷ c .response .count1 ∷ c .response .count2 ∷ []) ++ c .response .bytes
 
 -- a buffer and an area that were in use
@@ -48,7 +53,7 @@ reads g outcome card area =
 
 -- a blank state, all zero
 abbrev pub blank : List ℕ
-blank = replicate 514 0
+blank = replicate 544 0
 
 -- a text is accepted, or is not
 abbrev pub agree : Bool → Bool → Bool
@@ -56,12 +61,16 @@ agree true b = b
 agree false b = not b
 
 abbrev pub is : Bool → List ℕ → Bool
-is good s = agree good (accepted s)
+is good s = agree good (accepted new s)
 
 pub data Row : Type 0 where
   -- a sound card, the bytes of its files, and its text: written where it just fits and where there is more room, refused by 10 in one byte less,
   -- and read
   written : Card → List ℕ → List ℕ → Row
+  -- the same of a card without directories in both forms, old and new; neither text is one of the other form
+  in-both-forms : Card → List ℕ → List ℕ → List ℕ → Row
+  -- the same of a card with directories, which has no text of the old form: 13 whatever room there is
+  with-folders : Card → List ℕ → List ℕ → Row
   -- a card, an area and a buffer of so many bytes: the writer refuses by this number
   unwritten : Card → List ℕ → ℕ → ℕ → Row
   -- a text, and an area of so many bytes: the reader refuses by this number
@@ -73,17 +82,26 @@ abbrev pub sweep : ℕ → (ℕ → Bool) → Bool
 sweep zero p = true
 sweep (suc n) p = p n && sweep n p
 
-abbrev pub holds : Row → Bool
-holds (written c bytes s) =
+abbrev pub holdsIn : Form → Card → List ℕ → List ℕ → Bool
+holdsIn form c bytes s =
     let n = length s in
     let area = area-of 0x5A bytes in
-    sound c area && (equal (text c area) s
-    && (writes (toText c area (filler n)) 0 c n s
-    && (writes (toText c area (filler (n + 3))) 0 c n (s ++ filler 3)
-    && (writes (toText c area (filler (n - 1))) 10 c 0 (filler (n - 1))
-    && reads (fromText s (filler 4096)) 0 (numbers c) (area-of 0 bytes)))))
-holds (unwritten c area room outcome) = writes (toText c area (filler room)) outcome c 0 (filler room)
-holds (unread s size outcome) = reads (fromText s (filler size)) outcome blank (filler size)
+    sound c area && (equal (text form c area) s
+    && (writes (toText form c area (filler n)) 0 c n s
+    && (writes (toText form c area (filler (n + 3))) 0 c n (s ++ filler 3)
+    && (writes (toText form c area (filler (n - 1))) 10 c 0 (filler (n - 1))
+    && reads (fromText form s (filler 4096)) 0 (numbers c) (area-of 0 bytes)))))
+
+-- refused by 13 whatever room there is, with nothing written
+abbrev pub no-old-text : Card → List ℕ → ℕ → Bool
+no-old-text c area room = writes (toText old c area (filler room)) 13 c 0 (filler room)
+
+abbrev pub holds : Row → Bool
+holds (written c bytes s) = holdsIn new c bytes s
+holds (in-both-forms c bytes s t) = holdsIn old c bytes s && (holdsIn new c bytes t && (not (accepted new s) && not (accepted old t)))
+holds (with-folders c bytes t) = holdsIn new c bytes t && (no-old-text c (area-of 0 bytes) 0 && no-old-text c (area-of 0 bytes) 9518)
+holds (unwritten c area room outcome) = writes (toText new c area (filler room)) outcome c 0 (filler room)
+holds (unread s size outcome) = reads (fromText new s (filler size)) outcome blank (filler size)
 holds (swept n p) = sweep n p
 
 abbrev pub allHold : List Row → Bool

@@ -5,7 +5,7 @@ use mathlib.Core.List.{List, [], _∷_, _++_}
 use lib.Dec.{eqb, leb}
 use lib.ListN.{take, replicate}
 use Rattle.rules.specs.declared.Card.{Card}
-use Rattle.texts.specs.Text.{sessionLine}
+use Rattle.texts.specs.Text.{new, sessionLine}
 use Rattle.text_examples.specs.Bytes.{chars, lines, equal}
 use Rattle.text_examples.specs.Table.{Row, written, swept, is}
 use Rattle.text_examples.specs.Cards.{session, waits, told, holder}
@@ -16,9 +16,9 @@ use Rattle.text_examples.specs.Refusals.{device-line, admin-line, user-l
 abbrev pub waiting : ℕ → List ℕ → Card
 waiting mode bytes = waits mode bytes (holder (session 0 0 0 0 []) [])
 
--- its session's line, and its text, by their last two fields
+-- its session's line, and its text, by mode and what waits
 abbrev pub ending : List ℕ → List ℕ → List ℕ
-ending mode said = fields (chars "0" ∷ chars "0" ∷ chars "0" ∷ chars "-" ∷ chars "-" ∷ mode ∷ said ∷ [])
+ending mode said = fields (chars "0" ∷ chars "0" ∷ chars "0" ∷ chars "-" ∷ chars "-" ∷ mode ∷ said ∷ chars "3F00" ∷ [])
 
 abbrev pub said-so : List ℕ → List ℕ → List ℕ
 said-so mode said = lines (device-line ∷ admin-line ∷ user-line ∷ []) ++ ending mode said
@@ -45,8 +45,8 @@ waiting-written =
     ∷ some-wait 256
     ∷ written (waiting 1 (replicate 256 0)) [] (said-so (chars "1") (digits (replicate 256 0)))
     -- each number of bytes in its line, and every byte at both ends of three
-    ∷ swept 257 (λ n. equal (sessionLine (waiting 1 (some n))) (ending (chars "1") (said n)))
-    ∷ swept 256 (λ b. equal (sessionLine (waiting 1 (b ∷ 7 ∷ (255 - b) ∷ []))) (ending (chars "1") (digits (b ∷ 7 ∷ (255 - b) ∷ []))))
+    ∷ swept 257 (λ n. equal (sessionLine new (waiting 1 (some n))) (ending (chars "1") (said n)))
+    ∷ swept 256 (λ b. equal (sessionLine new (waiting 1 (b ∷ 7 ∷ (255 - b) ∷ []))) (ending (chars "1") (digits (b ∷ 7 ∷ (255 - b) ∷ []))))
     ∷ []
 
 -- as many may wait in mode 1, and in mode 0 none

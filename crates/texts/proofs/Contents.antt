@@ -1,7 +1,7 @@
 -- Contents and files, written and read back.
 -- Assumes nothing.
 use Prim.Native.Nat.{ℕ, zero, suc, _+_, _-_, _*_, _≤_, _<_}
-use mathlib.Core.Bool.{true}
+use mathlib.Core.Bool.{true, false}
 use mathlib.Core.List.{List, [], _∷_, _++_, append-assoc}
 use mathlib.Core.Path.{_≡_, refl, sym, ap, ap₂, _∙_}
 use native.Mathlib.Nat.{sub-zero}
@@ -14,14 +14,16 @@ use Rattle.files.proofs.Checks.{join}
 use Rattle.digits.specs.Digits.{newline, ended, hexOf}
 use Rattle.digits.proofs.Written.{hexOf-length}
 use Rattle.files.specs.declared.File.{File}
-use Rattle.files.specs.Types.{size}
-use Rattle.files.specs.Directory.{fileAt, startAt}
-use Rattle.texts.specs.Text.{fileLine, rows, linesFor, contents, filesText}
-use Rattle.texts.specs.Reading.{pairs, inRow, pastRow, rowsIn, behind, contentsIn, contentsOf, afterFile, lengthFor, goesOn, filesIn, bytesIn, laid}
-use Rattle.texts.specs.Laws.{Bytes}
+use Rattle.files.specs.declared.Folder.{Folder}
+use Rattle.files.specs.declared.Directory.{Directory}
+use Rattle.files.specs.Types.{count, recordLength, size}
+use Rattle.files.specs.Directory.{fileAt, folderAt, startAt}
+use Rattle.texts.specs.Text.{Form, fileLine, folderLine, folderLines, rows, linesFor, contents, filesText}
+use Rattle.texts.specs.Reading.{skip, skips, fileIn, housedIn, folderNext, foldersIn, pairs, inRow, pastRow, rowsIn, behind, contentsIn, contentsOf, afterFile, lengthFor, goesOn, filesIn, bytesIn, laid}
+use Rattle.texts.specs.Laws.{Bytes, FolderBytes}
 use Rattle.texts.proofs.Digits.{pair-back}
 use Rattle.texts.proofs.Lines.{line-some}
-use Rattle.texts.proofs.Cards.{Told, file-back, file-end}
+use Rattle.texts.proofs.Cards.{Told, Homes, file-back, file-end, housed-back, file-no-folder, folder-end, folder-next, folder-back}
 
 pub bytes-drop : (n : ℕ) (s : List ℕ) → Bytes s → Bytes (drop n s)
 bytes-drop zero s h = h
@@ -130,116 +132,160 @@ unfolding startAt
 start-cons f fs zero = omega arith
 start-cons f fs (suc n) = let e = start-cons f fs n in omega arith
 
+-- a file as its line is read, in a directory that says the same of directories
+pub record Said (form : Form) (e d : Directory) (f : File) : Type 0 where
+  pub told : Told f
+  pub homed : Homes form e d (f .folder)
+
 -- the file whose line comes first
-module _ (f : File) (area r : List ℕ) (t : Told f) (h : size f ≤ length area) where
+module _ (form : Form) (e d : Directory) (f : File) (area r : List ℕ) (t : Said form e d f) (h : size f ≤ length area) where
   abbrev own : List ℕ
   own = take (size f) area
 
   abbrev here : List ℕ
-  here = fileLine f ++ (contents own ++ r)
+  here = fileLine form d f ++ (contents own ++ r)
 
   own-length : length own ≡ size f
   own-length = length-take-le (size f) area h
 
-  contents-first : Bytes area → contentsOf here ≡ own
+  -- its directory says nothing of its size
+  size-back : size (fileIn here) ≡ size f
+  unfolding size count recordLength
+  size-back = rw (file-back form d f (contents own ++ r) (t .told))
+
+  contents-first : Bytes area → contentsOf form here ≡ own
   contents-first k =
       let e : contentsIn (size f) (contents own ++ r) ≡ own = rw own-length at (contents-back own r (bytes-take (size f) area k)) in
-      rw (file-back f (contents own ++ r) t, file-end f (contents own ++ r)) e
+      rw (size-back, file-end form d f (contents own ++ r)) e
 
-  after-first : afterFile here ≡ r
+  after-first : afterFile form here ≡ r
   after-first =
       let e : behind (linesFor (size f)) (size f) (contents own ++ r) ≡ r = rw own-length at (contents-end own r) in
-      rw (file-back f (contents own ++ r) t, file-end f (contents own ++ r)) e
+      rw (size-back, file-end form d f (contents own ++ r)) e
 
   here-some : 1 ≤ length here
   unfolding fileLine
   here-some = line-some _ (contents own ++ r)
 
-  here-goes : (room : ℕ) → size f ≤ room → goesOn room here ≡ true
+  here-goes : (room : ℕ) → size f ≤ room → goesOn form room here ≡ true
   here-goes room k =
       let l : lengthFor (size f) ≤ length (contents own ++ r) = omega (arith, length-append (contents own) r, contents-text own, own-length) in
-      rw (file-back f (contents own ++ r) t, file-end f (contents own ++ r)) (join (le-leb 1 (length here) here-some) (join (le-leb (size f) room k) (le-leb (lengthFor (size f)) (length (contents own ++ r)) l)))
+      rw (size-back, file-end form d f (contents own ++ r)) (join (le-leb 1 (length here) here-some) (join (le-leb (size f) room k) (le-leb (lengthFor (size f)) (length (contents own ++ r)) l)))
+
+  here-housed : housedIn e here ≡ f
+  here-housed = housed-back form d f (contents own ++ r) e (t .told) (t .homed)
 
 -- all files
-abbrev pub AllTold : List File → ℕ → Type 0
-AllTold files n = (i : ℕ) → i < n → Told (fileAt files i)
+abbrev pub AllSaid : Form → Directory → Directory → List File → ℕ → Type 0
+AllSaid form e d files n = (i : ℕ) → i < n → Said form e d (fileAt files i)
 
-module _ (n : ℕ) (f : File) (files : List File) (area : List ℕ) (t : AllTold (f ∷ files) (suc n)) (h : startAt (f ∷ files) (suc n) ≤ length area) where
-  abbrev others : List ℕ
-  others = filesText (take n files) (drop (size f) area)
+module _ (form : Form) (e d : Directory) where
+  module _ (n : ℕ) (f : File) (files : List File) (area : List ℕ) (t : AllSaid form e d (f ∷ files) (suc n)) (h : startAt (f ∷ files) (suc n) ≤ length area) where
+    abbrev others : List ℕ
+    others = filesText form d (take n files) (drop (size f) area)
 
-  first-told : Told f
-  first-told = t 0 (omega arith)
+    others-said : AllSaid form e d files n
+    others-said i l = t (suc i) (omega arith)
 
-  others-told : AllTold files n
-  others-told i l = t (suc i) (omega arith)
+    first-fits : size f ≤ length area
+    first-fits = omega (arith, h, start-cons f files n)
 
-  first-fits : size f ≤ length area
-  first-fits = omega (arith, h, start-cons f files n)
+    others-fit : startAt files n ≤ length (drop (size f) area)
+    others-fit = omega (arith, h, start-cons f files n, length-drop (size f) area)
 
-  others-fit : startAt files n ≤ length (drop (size f) area)
-  others-fit = omega (arith, h, start-cons f files n, length-drop (size f) area)
+    room-left : (room : ℕ) → startAt (f ∷ files) (suc n) ≤ room → (size f ≤ room) × (startAt files n ≤ room - size f)
+    room-left room k = let e = start-cons f files n in (omega arith, omega arith)
 
-  room-left : (room : ℕ) → startAt (f ∷ files) (suc n) ≤ room → (size f ≤ room) × (startAt files n ≤ room - size f)
-  room-left room k = let e = start-cons f files n in (omega arith, omega arith)
+  pub files-back : (n m room : ℕ) (files : List File) (area : List ℕ) → n ≤ m → n ≤ length files → startAt files n ≤ room → startAt files n ≤ length area → AllSaid form e d files n
+      → filesIn form e m room (filesText form d (take n files) area) ≡ take n files
+  unfolding filesIn filesText
+  files-back zero zero room files area h₁ h₂ h₃ h₄ t = refl
+  files-back zero (suc m) room files area h₁ h₂ h₃ h₄ t = refl
+  files-back (suc n) m room [] area h₁ h₂ h₃ h₄ t = absurd (omega arith)
+  files-back (suc n) zero room (f ∷ files) area h₁ h₂ h₃ h₄ t = absurd (omega arith)
+  files-back (suc n) (suc m) room (f ∷ files) area h₁ h₂ h₃ h₄ t =
+      let r = others n f files area t h₄ in
+      let u = t 0 (omega arith) in
+      let z = first-fits n f files area t h₄ in
+      let l = room-left n f files area t h₄ room h₃ in
+      rw (here-goes form e d f area r u z room (l .0), after-first form e d f area r u z, here-housed form e d f area r u z, size-back form e d f area r u z)
+      (ap (λ (x : List File). f ∷ x) (files-back n m (room - size f) files (drop (size f) area) (omega arith) (omega arith) (l .1) (others-fit n f files area t h₄) (others-said n f files area t h₄)))
 
-pub files-back : (n m room : ℕ) (files : List File) (area : List ℕ) → n ≤ m → n ≤ length files → startAt files n ≤ room → startAt files n ≤ length area → AllTold files n
-    → filesIn m room (filesText (take n files) area) ≡ take n files
-unfolding filesIn filesText
-files-back zero zero room files area h₁ h₂ h₃ h₄ t = refl
-files-back zero (suc m) room files area h₁ h₂ h₃ h₄ t = refl
-files-back (suc n) m room [] area h₁ h₂ h₃ h₄ t = absurd (omega arith)
-files-back (suc n) zero room (f ∷ files) area h₁ h₂ h₃ h₄ t = absurd (omega arith)
-files-back (suc n) (suc m) room (f ∷ files) area h₁ h₂ h₃ h₄ t =
-    let r = others n f files area t h₄ in
-    let z = first-fits n f files area t h₄ in
-    let l = room-left n f files area t h₄ room h₃ in
-    rw (here-goes f area r (t 0 (omega arith)) z room (l .0), after-first f area r (t 0 (omega arith)) z, file-back f (contents (take (size f) area) ++ r) (t 0 (omega arith)))
-    (ap (λ (x : List File). f ∷ x) (files-back n m (room - size f) files (drop (size f) area) (omega arith) (omega arith) (l .1) (others-fit n f files area t h₄) (others-told n f files area t h₄)))
+  start-none : (files : List File) (area : List ℕ) → [] ≡ take (startAt files 0) area
+  unfolding startAt
+  start-none files area = refl
 
-start-none : (files : List File) (area : List ℕ) → [] ≡ take (startAt files 0) area
-unfolding startAt
-start-none files area = refl
+  pub bytes-back : (n m room : ℕ) (files : List File) (area : List ℕ) → n ≤ m → n ≤ length files → startAt files n ≤ room → startAt files n ≤ length area → AllSaid form e d files n → Bytes area
+      → bytesIn form m room (filesText form d (take n files) area) ≡ take (startAt files n) area
+  unfolding bytesIn filesText
+  bytes-back zero zero room files area h₁ h₂ h₃ h₄ t k = start-none files area
+  bytes-back zero (suc m) room files area h₁ h₂ h₃ h₄ t k = start-none files area
+  bytes-back (suc n) m room [] area h₁ h₂ h₃ h₄ t k = absurd (omega arith)
+  bytes-back (suc n) zero room (f ∷ files) area h₁ h₂ h₃ h₄ t k = absurd (omega arith)
+  bytes-back (suc n) (suc m) room (f ∷ files) area h₁ h₂ h₃ h₄ t k =
+      let r = others n f files area t h₄ in
+      let u = t 0 (omega arith) in
+      let z = first-fits n f files area t h₄ in
+      let l = room-left n f files area t h₄ room h₃ in
+      rw (
+        here-goes form e d f area r u z room (l .0),
+        contents-first form e d f area r u z k,
+        after-first form e d f area r u z,
+        size-back form e d f area r u z,
+        start-cons f files n,
+      )
+      (ap (λ (x : List ℕ). take (size f) area ++ x)
+      (bytes-back n m (room - size f) files (drop (size f) area) (omega arith) (omega arith) (l .1) (others-fit n f files area t h₄) (others-said n f files area t h₄) (bytes-drop (size f) area k))
+      ∙ sym (take-add (size f) (startAt files n) area))
 
-pub bytes-back : (n m room : ℕ) (files : List File) (area : List ℕ) → n ≤ m → n ≤ length files → startAt files n ≤ room → startAt files n ≤ length area → AllTold files n → Bytes area
-    → bytesIn m room (filesText (take n files) area) ≡ take (startAt files n) area
-unfolding bytesIn filesText
-bytes-back zero zero room files area h₁ h₂ h₃ h₄ t k = start-none files area
-bytes-back zero (suc m) room files area h₁ h₂ h₃ h₄ t k = start-none files area
-bytes-back (suc n) m room [] area h₁ h₂ h₃ h₄ t k = absurd (omega arith)
-bytes-back (suc n) zero room (f ∷ files) area h₁ h₂ h₃ h₄ t k = absurd (omega arith)
-bytes-back (suc n) (suc m) room (f ∷ files) area h₁ h₂ h₃ h₄ t k =
-    let r = others n f files area t h₄ in
-    let z = first-fits n f files area t h₄ in
-    let l = room-left n f files area t h₄ room h₃ in
-    rw (
-      here-goes f area r (t 0 (omega arith)) z room (l .0),
-      contents-first f area r (t 0 (omega arith)) z k,
-      after-first f area r (t 0 (omega arith)) z,
-      file-back f (contents (take (size f) area) ++ r) (t 0 (omega arith)),
-      start-cons f files n,
-    )
-    (ap (λ (x : List ℕ). take (size f) area ++ x)
-    (bytes-back n m (room - size f) files (drop (size f) area) (omega arith) (omega arith) (l .1) (others-fit n f files area t h₄) (others-told n f files area t h₄) (bytes-drop (size f) area k))
-    ∙ sym (take-add (size f) (startAt files n) area))
+-- all directories, and what stands behind them, which is no directory's line
+pub folders-back : (n m : ℕ) (folders : List Folder) (r : List ℕ) → n ≤ m → n ≤ length folders → ((i : ℕ) → i < n → FolderBytes (folderAt folders i)) → folderNext r ≡ false
+    → foldersIn m (folderLines (take n folders) ++ r) ≡ take n folders
+unfolding foldersIn folderLines
+folders-back zero zero folders r h₁ h₂ b e = refl
+folders-back zero (suc m) folders r h₁ h₂ b e = rw e
+folders-back (suc n) m [] r h₁ h₂ b e = absurd (omega arith)
+folders-back (suc n) zero (x ∷ folders) r h₁ h₂ b e = absurd (omega arith)
+folders-back (suc n) (suc m) (x ∷ folders) r h₁ h₂ b e =
+    let rest = folderLines (take n folders) ++ r in
+    rw (append-assoc (folderLine x) (folderLines (take n folders)) r, folder-next x rest, folder-end x rest, folder-back x rest (b 0 (omega arith)))
+    (ap (λ (l : List Folder). x ∷ l) (folders-back n m folders r (omega arith) (omega arith) (λ i l. b (suc i) (omega arith)) e))
+
+pub folders-end : (n : ℕ) (folders : List Folder) (r : List ℕ) → n ≤ length folders → skips (n + n) (folderLines (take n folders) ++ r) ≡ r
+unfolding folderLines
+folders-end zero folders r h = refl
+folders-end (suc n) [] r h = absurd (omega arith)
+folders-end (suc n) (x ∷ folders) r h =
+    let e : suc n + suc n ≡ suc (suc (n + n)) = omega arith in
+    rw (e, append-assoc (folderLine x) (folderLines (take n folders)) r)
+    (ap (skips (n + n)) (folder-end x (folderLines (take n folders) ++ r)) ∙ folders-end n folders r (omega arith))
+
+no-more : folderNext [] ≡ false
+unfolding skip
+no-more = refl
+
+pub files-no-folder : (form : Form) (d : Directory) (files : List File) (area : List ℕ) → folderNext (filesText form d files area) ≡ false
+unfolding filesText
+files-no-folder form d [] area = no-more
+files-no-folder form d (f ∷ fs) area = file-no-folder form d f (contents (take (size f) area) ++ filesText form d fs (drop (size f) area))
 
 -- a text has the bytes of the files and no others
-pub text-front : (n : ℕ) (files : List File) (area z : List ℕ) → n ≤ length files → startAt files n ≤ length area
-    → filesText (take n files) (take (startAt files n) area ++ z) ≡ filesText (take n files) area
+pub text-front : (form : Form) (d : Directory) (n : ℕ) (files : List File) (area z : List ℕ) → n ≤ length files → startAt files n ≤ length area
+    → filesText form d (take n files) (take (startAt files n) area ++ z) ≡ filesText form d (take n files) area
 unfolding filesText
-text-front zero files area z h₁ h₂ = refl
-text-front (suc n) [] area z h₁ h₂ = absurd (omega arith)
-text-front (suc n) (f ∷ files) area z h₁ h₂ =
+text-front form d zero files area z h₁ h₂ = refl
+text-front form d (suc n) [] area z h₁ h₂ = absurd (omega arith)
+text-front form d (suc n) (f ∷ files) area z h₁ h₂ =
     let s = start-cons f files n in
     let e : take (startAt (f ∷ files) (suc n)) area ≡ take (size f) area ++ take (startAt files n) (drop (size f) area) = ap (λ (k : ℕ). take k area) s ∙ take-add (size f) (startAt files n) area in
     let l : length (take (size f) area) ≡ size f = length-take-le (size f) area (omega arith) in
     let q : take (startAt (f ∷ files) (suc n)) area ++ z ≡ take (size f) area ++ (take (startAt files n) (drop (size f) area) ++ z) =
     ap (λ (x : List ℕ). x ++ z) e ∙ append-assoc (take (size f) area) _ z in
     let a : take (size f) (take (startAt (f ∷ files) (suc n)) area ++ z) ≡ take (size f) area = ap (take (size f)) q ∙ take-at (take (size f) area) _ (size f) l in
-    let d : drop (size f) (take (startAt (f ∷ files) (suc n)) area ++ z) ≡ take (startAt files n) (drop (size f) area) ++ z =
+    let d₀ : drop (size f) (take (startAt (f ∷ files) (suc n)) area ++ z) ≡ take (startAt files n) (drop (size f) area) ++ z =
     ap (drop (size f)) q ∙ drop-at (take (size f) area) _ (size f) l in
     let k : startAt files n ≤ length (drop (size f) area) = simp length-drop (omega arith) in
-    rw (a, d, text-front n files (drop (size f) area) z (omega arith) k)
+    rw (a, d₀, text-front form d n files (drop (size f) area) z (omega arith) k)
 
 -- values laid over a list from its front on
 laid-behind : {A : Type 0} (p out xs : List A) → length xs ≤ length out → laid (p ++ out) (length p) xs ≡ p ++ (xs ++ drop (length xs) out)

@@ -1,17 +1,19 @@
--- No sound card has a longer text than 9,401 bytes.
+-- No sound card has a longer text than 9,518 bytes, in the old form 9,401.
 -- Assumes nothing.
-use Prim.Native.Nat.{ℕ, zero, suc, _+_, _-_, _*_, _≤_, _<_}
+use Prim.Native.Nat.{ℕ, zero, suc, _+_, _-_, _*_, _≤_, _<_, min}
 use mathlib.Core.Bool.{Bool, true, false, cond, _||_}
 use mathlib.Core.List.{List, [], _∷_, _++_}
 use mathlib.Core.Path.{_≡_, refl, _∙_}
 use native.Mathlib.Omega.{arith}
 use lib.Dec.{eqb, leb}
 use lib.ListN.{length, take, drop, length-take, length-append}
-use borrow.Author.Tests.{leb-true}
+use borrow.Author.Tests.{eqb-true, leb-true}
 use Rattle.digits.specs.Digits.{tab, newline, decimal, orDash}
 use Rattle.digits.proofs.Decimal.{decimal-length}
 use Rattle.digits.proofs.Written.{hexOf-length}
 use Rattle.files.specs.declared.File.{File}
+use Rattle.files.specs.declared.Folder.{Folder}
+use Rattle.files.specs.declared.Directory.{Directory}
 use Rattle.files.specs.Words.{isZero}
 use Rattle.files.specs.Types.{isVariable, size}
 use Rattle.files.specs.Record.{bytesUsed}
@@ -24,13 +26,13 @@ use Rattle.rules.specs.declared.Credential.{Credential}
 use Rattle.rules.specs.declared.Card.{Card}
 use Rattle.rules.specs.Words.{allOf}
 use Rattle.rules.specs.State.{Which, device, admin, user, numberOf, credential, rightKept, valueOf, challenge, mode, responseSize, waitCount, waiting}
-use Rattle.rules.specs.Sound.{goodValue, soundValue, goodChallenge, soundChallenge, sound}
+use Rattle.rules.specs.Sound.{goodValue, soundValue, goodChallenge, soundChallenge}
 use Rattle.rules.proofs.Good.{Good, numbered, sound-good, said-short, responded}
-use Rattle.texts.specs.Text.{line, credentialLine, credentialLines, currentFid, sessionLine, fidBytes, createBytes, heldOrUsed, fileLine, contents, filesText, text}
-use Rattle.texts.specs.Laws.{TextFits}
+use Rattle.texts.specs.Text.{Form, line, credentialLine, credentialLines, currentFid, folderBytes, homeFid, home, sessionLine, folderLine, folderLines, folderCount, fidBytes, createBytes, heldOrUsed, fileLine, contents, filesText, text}
+use Rattle.texts.specs.Laws.{longest, TextFits}
 use Rattle.texts.proofs.Contents.{contents-text, start-cons}
 use Rattle.texts.proofs.Counts.{few-places, no-places, used-few}
-use Rattle.texts.proofs.Trips.{current-short, place-sound, place-fits, tries-low}
+use Rattle.texts.proofs.Trips.{current-short, home-short, place-sound, place-fits, tries-low}
 
 -- fields
 hex-length : (m : ℕ) (bs : List ℕ) → 1 ≤ m → length bs ≤ m → length (orDash bs) ≤ m + m
@@ -47,6 +49,19 @@ last-length : (f : List ℕ) → length (line (f ∷ [])) ≡ length f + 1
 unfolding line
 last-length f = length-append f (newline ∷ []) ∙ omega arith
 
+-- a directory's FID takes five bytes more, in the new form
+abbrev homes : Form → ℕ → ℕ
+homes form n = cond form (5 * n) 0
+
+homes-more : (form : Form) (n : ℕ) → homes form (suc n) ≡ homes form n + homes form 1
+homes-more true n = omega arith
+homes-more false n = refl
+
+home-length : (form : Form) (d : Directory) (f : List ℕ) (n : ℕ) → length (line (f ∷ home form d n)) ≤ length f + 1 + homes form 1
+home-length true d f n =
+    omega (arith, more-length f (orDash (homeFid d n)) [], last-length (orDash (homeFid d n)), hex-length 2 (homeFid d n) (omega arith) (home-short d n))
+home-length false d f n = omega (arith, last-length f)
+
 credential-length : (x : Credential) → length (valueOf x) ≤ 16 → x .tries .limit ≤ 128 → x .tries .left ≤ 128 → length (credentialLine x) ≤ 41
 unfolding credentialLine
 credential-length x h l t =
@@ -60,19 +75,21 @@ credential-length x h l t =
       decimal-length 2 (x .tries .left) (omega arith),
     )
 
-session-length : (c : Card) → ((w : Which) → rightKept c (numberOf w) ≤ 1) → length (challenge c) ≤ 16 → mode c ≤ 1 → length (waiting c) ≤ responseSize → length (sessionLine c) ≤ 559
+session-length : (form : Form) (c : Card) → ((w : Which) → rightKept c (numberOf w) ≤ 1) → length (challenge c) ≤ 16 → mode c ≤ 1 → length (waiting c) ≤ responseSize
+    → length (sessionLine form c) ≤ 559 + homes form 1
 unfolding sessionLine
-session-length c h l m w =
+session-length form c h l m w =
     let fid = currentFid (c .directory) (c .session .current) in
+    let last = orDash (waiting c) ∷ home form (c .directory) (c .session .folder) in
     omega (
       arith,
-      more-length (decimal (rightKept c 0)) (decimal (rightKept c 1)) (decimal (rightKept c 2) ∷ orDash fid ∷ orDash (challenge c) ∷ decimal (mode c) ∷ orDash (waiting c) ∷ []),
-      more-length (decimal (rightKept c 1)) (decimal (rightKept c 2)) (orDash fid ∷ orDash (challenge c) ∷ decimal (mode c) ∷ orDash (waiting c) ∷ []),
-      more-length (decimal (rightKept c 2)) (orDash fid) (orDash (challenge c) ∷ decimal (mode c) ∷ orDash (waiting c) ∷ []),
-      more-length (orDash fid) (orDash (challenge c)) (decimal (mode c) ∷ orDash (waiting c) ∷ []),
-      more-length (orDash (challenge c)) (decimal (mode c)) (orDash (waiting c) ∷ []),
-      more-length (decimal (mode c)) (orDash (waiting c)) [],
-      last-length (orDash (waiting c)),
+      more-length (decimal (rightKept c 0)) (decimal (rightKept c 1)) (decimal (rightKept c 2) ∷ orDash fid ∷ orDash (challenge c) ∷ decimal (mode c) ∷ last),
+      more-length (decimal (rightKept c 1)) (decimal (rightKept c 2)) (orDash fid ∷ orDash (challenge c) ∷ decimal (mode c) ∷ last),
+      more-length (decimal (rightKept c 2)) (orDash fid) (orDash (challenge c) ∷ decimal (mode c) ∷ last),
+      more-length (orDash fid) (orDash (challenge c)) (decimal (mode c) ∷ last),
+      more-length (orDash (challenge c)) (decimal (mode c)) last,
+      more-length (decimal (mode c)) (orDash (waiting c)) (home form (c .directory) (c .session .folder)),
+      home-length form (c .directory) (orDash (waiting c)) (c .session .folder),
       decimal-length 0 (rightKept c 0) (omega (arith, h device)),
       decimal-length 0 (rightKept c 1) (omega (arith, h admin)),
       decimal-length 0 (rightKept c 2) (omega (arith, h user)),
@@ -81,6 +98,23 @@ session-length c h l m w =
       decimal-length 0 (mode c) (omega (arith, m)),
       hex-length responseSize (waiting c) (omega arith) w,
     )
+
+-- a directory's line
+folder-length : (x : Folder) → length (folderLine x) ≤ 8
+unfolding folderLine
+folder-length x =
+    omega (
+      arith,
+      more-length (orDash (folderBytes x)) (orDash (x .right ∷ [])) [],
+      last-length (orDash (x .right ∷ [])),
+      hex-length 2 (folderBytes x) (omega arith) (omega arith),
+      hex-length 1 (x .right ∷ []) (omega arith) (omega arith),
+    )
+
+folders-length : (xs : List Folder) → length (folderLines xs) ≤ 8 * length xs
+unfolding folderLines
+folders-length [] = omega arith
+folders-length (x ∷ xs) = omega (arith, length-append (folderLine x) (folderLines xs), folder-length x, folders-length xs)
 
 -- the two counts of a file take six digits at the most
 counts-length : (f : File) → soundFile f ≡ true → size f ≤ 4096 → length (decimal (heldOrUsed f)) + length (decimal (f .newest)) ≤ 6
@@ -95,15 +129,15 @@ counts-length f h l = go (isVariable f) refl
         let p = few-places f h in
         rw e (omega (arith, decimal-length 2 (f .held) (omega (arith, p .0)), decimal-length 2 (f .newest) (omega (arith, p .1))))
 
-file-length : (f : File) → soundFile f ≡ true → size f ≤ 4096 → length (fileLine f) ≤ 24
+file-length : (form : Form) (d : Directory) (f : File) → soundFile f ≡ true → size f ≤ 4096 → length (fileLine form d f) ≤ 24 + homes form 1
 unfolding fileLine
-file-length f h l =
+file-length form d f h l =
     omega (
       arith,
-      more-length (orDash (fidBytes f)) (orDash (createBytes f)) (decimal (heldOrUsed f) ∷ decimal (f .newest) ∷ []),
-      more-length (orDash (createBytes f)) (decimal (heldOrUsed f)) (decimal (f .newest) ∷ []),
-      more-length (decimal (heldOrUsed f)) (decimal (f .newest)) [],
-      last-length (decimal (f .newest)),
+      more-length (orDash (fidBytes f)) (orDash (createBytes f)) (decimal (heldOrUsed f) ∷ decimal (f .newest) ∷ home form d (f .folder)),
+      more-length (orDash (createBytes f)) (decimal (heldOrUsed f)) (decimal (f .newest) ∷ home form d (f .folder)),
+      more-length (decimal (heldOrUsed f)) (decimal (f .newest)) (home form d (f .folder)),
+      home-length form d (decimal (f .newest)) (f .folder),
       hex-length 2 (fidBytes f) (omega arith) (omega arith),
       hex-length 5 (createBytes f) (omega arith) (omega arith),
       counts-length f h l,
@@ -116,22 +150,24 @@ contents-length n area =
     omega (arith, contents-text (take n area), l)
 
 -- all files: 32 times the length, so that the lines of contents are counted without rounding
-files-length : (n : ℕ) (files : List File) (area : List ℕ) → n ≤ length files → ((i : ℕ) → i < n → (soundFile (fileAt files i) ≡ true) × (size (fileAt files i) ≤ 4096))
-    → 32 * length (filesText (take n files) area) ≤ 799 * n + 65 * startAt files n
+files-length : (form : Form) (d : Directory) (n : ℕ) (files : List File) (area : List ℕ) → n ≤ length files
+    → ((i : ℕ) → i < n → (soundFile (fileAt files i) ≡ true) × (size (fileAt files i) ≤ 4096))
+    → 32 * length (filesText form d (take n files) area) ≤ 799 * n + 65 * startAt files n + 32 * homes form n
 unfolding filesText
-files-length zero files area h k = omega arith
-files-length (suc n) [] area h k = absurd (omega arith)
-files-length (suc n) (f ∷ files) area h k =
-    let r = filesText (take n files) (drop (size f) area) in
+files-length form d zero files area h k = omega arith
+files-length form d (suc n) [] area h k = absurd (omega arith)
+files-length form d (suc n) (f ∷ files) area h k =
+    let r = filesText form d (take n files) (drop (size f) area) in
     let first = k 0 (omega arith) in
     omega (
       arith,
-      length-append (fileLine f) (contents (take (size f) area) ++ r),
+      length-append (fileLine form d f) (contents (take (size f) area) ++ r),
       length-append (contents (take (size f) area)) r,
-      file-length f (first .0) (first .1),
+      file-length form d f (first .0) (first .1),
       contents-length (size f) area,
-      files-length n files (drop (size f) area) (omega arith) (λ i l. k (suc i) (omega arith)),
+      files-length form d n files (drop (size f) area) (omega arith) (λ i l. k (suc i) (omega arith)),
       start-cons f files n,
+      homes-more form n,
     )
 
 -- the whole text
@@ -170,24 +206,36 @@ module _ (c : Card) (g : Good c) where
         line-at user,
       )
 
-pub text-fits : TextFits
-unfolding text
-text-fits c area h =
+-- the old form has neither directories nor their FIDs
+all-fit : (form : Form) (n count total : ℕ) → cond form true (isZero n) ≡ true → n ≤ 4 → count ≤ 16
+    → 32 * total ≤ 32 * (123 + 559 + 8 * n + homes form 1) + 799 * count + 65 * 4096 + 32 * homes form count → total ≤ longest form
+all-fit true n count total o h l k = omega arith
+all-fit false n count total o h l k = let z : n ≡ 0 = eqb-true _ _ o in omega arith
+
+pub text-fits : (form : Form) → TextFits form
+unfolding text folderCount
+text-fits form c area h o =
     let g = sound-good c area h in
     let d = c .directory in
     let fd = filed (c .directory) (g .directory) in
     let u = used-is (c .directory) (fd .few) in
     let k = responded (c .response) (g .response) in
-    let files = files-length (d .count) (d .files) area (omega (arith, fd .places, fd .few)) (λ i l. (place-sound (c .directory) fd i l, place-fits (c .directory) fd i l)) in
-    rw u
+    let n : min (d .number) 4 ≡ d .number = omega (arith, fd .folders .few) in
+    let xs = take (d .number) (d .folders) in
+    let fs = filesText form d (take (d .count) (d .files)) area in
+    let files = files-length form d (d .count) (d .files) area (omega (arith, fd .places, fd .few)) (λ i l. (place-sound (c .directory) fd i l, place-fits (c .directory) fd i l)) in
+    rw (u, n)
+    (all-fit form (d .number) (d .count) _ o (fd .folders .few) (fd .few)
     (omega (
       arith,
-      length-append (credentialLines c) (sessionLine c ++ filesText (take (d .count) (d .files)) area),
-      length-append (sessionLine c) (filesText (take (d .count) (d .files)) area),
+      length-append (credentialLines c) (sessionLine form c ++ (folderLines xs ++ fs)),
+      length-append (sessionLine form c) (folderLines xs ++ fs),
+      length-append (folderLines xs) fs,
       credentials-length c g,
-      session-length c (λ w. g .credited (numberOf w) (numbered w) .low) (challenge-short c (g .challenge)) (leb-true _ _ (k .mode))
+      session-length form c (λ w. g .credited (numberOf w) (numbered w) .low) (challenge-short c (g .challenge)) (leb-true _ _ (k .mode))
           (front-short responseSize (waitCount (c .response)) (c .response .bytes) (k .few)),
+      folders-length xs,
+      length-take (d .number) (d .folders),
       files,
       fd .room,
-      fd .few,
-    ))
+    )))

@@ -1,14 +1,15 @@
 -- Fields of a line read back.
 -- Assumes nothing.
 use Prim.Native.Nat.{ℕ, _+_, _≤_, _<_}
-use mathlib.Core.Bool.{true}
+use mathlib.Core.Bool.{true, false}
 use mathlib.Core.List.{List, [], _∷_, _++_, append-assoc}
 use mathlib.Core.Path.{_≡_, refl}
 use native.Mathlib.Omega.{arith}
 use lib.ListN.{length, length-append}
 use Rattle.digits.specs.Digits.{tab, newline, decimal, orDash}
-use Rattle.texts.specs.Text.{line}
-use Rattle.texts.specs.Reading.{ends, skip, hexIn, number, small}
+use Rattle.files.specs.declared.Directory.{Directory}
+use Rattle.texts.specs.Text.{Form, line, homeFid, home, tail}
+use Rattle.texts.specs.Reading.{ends, skip, hexIn, number, small, pastHome}
 use Rattle.texts.specs.Laws.{Bytes}
 use Rattle.texts.proofs.Digits.{Inside, skip-over, inside-hex, inside-decimal, hex-back, number-back, small-back}
 
@@ -47,6 +48,21 @@ skip-last-hex bs r = skip-end (orDash bs) r (inside-hex bs)
 
 pub skip-last-number : (n : ℕ) (r : List ℕ) → skip (line (decimal n ∷ []) ++ r) ≡ r
 skip-last-number n r = skip-end (decimal n) r (inside-decimal n)
+
+-- and to the directory's FID behind the last
+skip-home : (f : List ℕ) (form : Form) (d : Directory) (n : ℕ) (r : List ℕ) → Inside f → skip (line (f ∷ home form d n) ++ r) ≡ tail form d n ++ r
+skip-home f true d n r h = skip-field f (orDash (homeFid d n)) [] r h
+skip-home f false d n r h = skip-end f r h
+
+pub skip-home-hex : (bs : List ℕ) (form : Form) (d : Directory) (n : ℕ) (r : List ℕ) → skip (line (orDash bs ∷ home form d n) ++ r) ≡ tail form d n ++ r
+skip-home-hex bs form d n r = skip-home (orDash bs) form d n r (inside-hex bs)
+
+pub skip-home-number : (m : ℕ) (form : Form) (d : Directory) (n : ℕ) (r : List ℕ) → skip (line (decimal m ∷ home form d n) ++ r) ≡ tail form d n ++ r
+skip-home-number m form d n r = skip-home (decimal m) form d n r (inside-decimal m)
+
+pub past-home : (form : Form) (d : Directory) (n : ℕ) (r : List ℕ) → pastHome form (tail form d n ++ r) ≡ r
+past-home true d n r = skip-last-hex (homeFid d n) r
+past-home false d n r = refl
 
 -- a line is not empty
 some : (l : List (List ℕ)) → 1 ≤ length (line l)

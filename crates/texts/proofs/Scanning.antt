@@ -15,16 +15,17 @@ use lib.Seq.{drop-cons, drop-drop, getD-drop, take-all}
 use borrow.Author.Tests.{leb-true, lt-ltb, le-ltb}
 use Rattle.digits.specs.Digits.{value, hexPair}
 use Rattle.files.specs.declared.File.{File}
+use Rattle.files.specs.declared.Folder.{Folder}
 use Rattle.files.specs.declared.Directory.{Directory}
 use Rattle.files.specs.Words.{every, Bounded}
 use Rattle.files.specs.Part.{over, zeros}
-use Rattle.files.specs.State.{blankFile, noFiles, added}
-use Rattle.files.specs.Types.{size}
-use Rattle.files.specs.Directory.{mostFiles}
-use Rattle.files.proofs.Checks.{each, split}
+use Rattle.files.specs.State.{blankFile, blankFolder, noFiles, added, inFolder, oneMoreFolder, addedFolder}
+use Rattle.files.specs.Types.{count, recordLength, size}
+use Rattle.files.specs.Directory.{mostFiles, mostFolders}
+use Rattle.files.proofs.Checks.{each}
 use Rattle.rules.specs.Words.{byte, filledTo}
-use Rattle.texts.specs.Text.{linesFor}
-use Rattle.texts.specs.Reading.{ends, skip, skips, pair, hexIn, numberFrom, number, pairs, pastRow, rowsIn, behind, contentsIn, fileIn, contentsOf, afterFile, lengthFor, goesOn, filesIn, bytesIn, laid, directoryOf, Reaches, Fills, Loads, LoadsAll}
+use Rattle.texts.specs.Text.{Form, linesFor}
+use Rattle.texts.specs.Reading.{ends, skip, skips, pair, hexIn, numberFrom, number, pairs, pastRow, rowsIn, behind, contentsIn, fileIn, homeIn, pastHome, contentsPart, contentsOf, afterFile, lengthFor, goesOn, housedIn, filesIn, bytesIn, folderNext, folderIn, foldersIn, laid, foldered, withFiles, Reaches, Fills, Loads, LoadsAll}
 use Rattle.texts.proofs.Contents.{pairs-length, contents-length, laid-front, laid-length, laid-append, drop-replicate}
 use Rattle.texts.proofs.Drawing.{drop-fewer}
 use Rattle.texts.proofs.Exact.{number-low, hex-few}
@@ -258,61 +259,152 @@ module _ (n : ℕ) (s rest image₀ image : List ℕ) (to q i : ℕ) (inv : Cont
       let k : n - i ≡ 0 = omega arith in
       record { rest-is = rw k at (inv .ends-so); inside = omega (arith, inv .inside); left-is = rw k at (inv .bytes) }
 
+-- a file's directory says nothing of its size
+home-size : (n : ℕ) (f : File) → size (inFolder n f) ≡ size f
+unfolding size count recordLength
+home-size n f = refl
+
+-- behind the fields of a line
+pub past-is : (form : Form) (s : List ℕ) (at to : ℕ) → form ≡ true → Reaches s (skip (drop at s)) to → Reaches s (pastHome form (drop at s)) to
+past-is form s at to h r = rw h r
+
+pub past-none : (form : Form) (s : List ℕ) (at : ℕ) → form ≡ false → at ≤ length s → Reaches s (pastHome form (drop at s)) at
+past-none form s at h l = rw h (record { rest-is = refl; inside = l })
+
+pub reaches-then : (form : Form) (s rest : List ℕ) (at to : ℕ) → Reaches s rest at → Reaches s (pastHome form (drop at s)) to → Reaches s (pastHome form rest) to
+reaches-then form s rest at to r t = rw (r .rest-is) at t
+
+-- directories
+pub record FoldersInv (s : List ℕ) (most : ℕ) (d : Directory) (at i : ℕ) : Type 0 where
+  pub low : i ≤ most
+  pub inside : at ≤ length s
+  pub files : d .files ≡ replicate mostFiles blankFile
+  pub count : d .count ≡ 0
+  pub number : d .number ≡ i
+  pub all : i + length (foldersIn (most - i) (drop at s)) ≡ length (foldersIn most s)
+  pub folders : laid (d .folders) i (foldersIn (most - i) (drop at s)) ≡ laid (replicate mostFolders blankFolder) 0 (foldersIn most s)
+
+pub folders-begin : (s : List ℕ) (most : ℕ) (d : Directory) → d ≡ noFiles → FoldersInv s most d 0 0
+folders-begin s most d e =
+    let z : most - 0 ≡ most = omega arith in
+    record { low = omega arith; inside = omega arith; files = rw e; count = rw e; number = rw e; all = rw z (omega arith); folders = rw (e, z) }
+
+module _ (s : List ℕ) (most : ℕ) (d : Directory) (at i : ℕ) (inv : FoldersInv s most d at i) where
+  folders-finished : foldersIn (most - i) (drop at s) ≡ [] → d ≡ foldered (foldersIn most s)
+  unfolding laid foldered
+  folders-finished h =
+      let k : i + 0 ≡ length (foldersIn most s) = rw h at (inv .all) in
+      let m : d .number ≡ length (foldersIn most s) = inv .number ∙ omega arith in
+      let q : d .folders ≡ laid (replicate mostFolders blankFolder) 0 (foldersIn most s) = rw h at (inv .folders) in
+      rw (← q, ← m, ← inv .files, ← inv .count)
+
+  pub folders-full : most ≤ i → d ≡ foldered (foldersIn most s)
+  unfolding foldersIn
+  folders-full h = let k : most - i ≡ 0 = omega arith in folders-finished (rw k)
+
+  module _ (rest : List ℕ) (t : Bool) (h : i < most) (p : rest ≡ drop at s) (w : t ≡ folderNext rest) where
+    one-left : most - i ≡ suc (most - (i + 1))
+    one-left = omega arith
+
+    next-is : t ≡ folderNext (drop at s)
+    next-is = w ∙ ap (λ (x : List ℕ). folderNext x) p
+
+    pub folders-over : t ≡ false → d ≡ foldered (foldersIn most s)
+    unfolding foldersIn
+    folders-over z = let q : folderNext (drop at s) ≡ false = sym next-is ∙ z in folders-finished (rw (one-left, q))
+
+    pub folders-goes : (x : Folder) (d′ : Directory) (to : ℕ) → most ≤ 4 → t ≡ true → x ≡ folderIn rest → d′ ≡ addedFolder d x → Reaches s (skips 2 (drop at s)) to
+        → FoldersInv s most d′ to (i + 1)
+    unfolding laid foldersIn
+    folders-goes x d′ to few z f g r =
+        let m : d′ ≡ oneMoreFolder d x = g ∙ rw (lt-ltb (d .number) 4 (omega (arith, inv .number))) in
+        let q : folderNext (drop at s) ≡ true = sym next-is ∙ z in
+        let x′ : x ≡ folderIn (drop at s) = f ∙ ap folderIn p in
+        let n : i + suc (length (foldersIn (most - (i + 1)) (skips 2 (drop at s)))) ≡ length (foldersIn most s) = rw (one-left, q) at (inv .all) in
+        let fs : laid (set (d .folders) i (folderIn (drop at s))) (suc i) (foldersIn (most - (i + 1)) (skips 2 (drop at s))) ≡ laid (replicate mostFolders blankFolder) 0 (foldersIn most s) =
+        rw (one-left, q) at (inv .folders) in
+        record {
+          low = omega arith;
+          inside = r .inside;
+          files = ap (λ (y : Directory). y .files) m ∙ inv .files;
+          count = ap (λ (y : Directory). y .count) m ∙ inv .count;
+          number = ap (λ (y : Directory). y .number) m ∙ ap (λ (y : ℕ). y + 1) (inv .number);
+          all = rw (r .rest-is) (omega arith);
+          folders =
+              ap₂ (λ (l : List Folder) (j : ℕ). laid l j (foldersIn (most - (i + 1)) (drop to s))) (ap (λ (y : Directory). y .folders) m ∙ ap₂ (set (d .folders)) (inv .number) x′) (add-one i)
+              ∙ ap (λ (l : List ℕ). laid (set (d .folders) i (folderIn (drop at s))) (suc i) (foldersIn (most - (i + 1)) l)) (r .rest-is)
+              ∙ fs;
+        }
+
 -- files
-pub record FilesInv (s image₀ image : List ℕ) (d : Directory) (at to i : ℕ) : Type 0 where
+pub record FilesInv (form : Form) (e : Directory) (s image₀ image : List ℕ) (d : Directory) (at to i : ℕ) : Type 0 where
   pub low : i ≤ 16
   pub inside : at ≤ length s
   pub room : to ≤ length image₀
   pub near : to ≤ i * 65535
   pub size : length image ≡ length image₀
   pub counted : d .count ≡ i
-  pub count : i + length (filesIn (16 - i) (length image₀ - to) (drop at s)) ≡ length (filesIn mostFiles (length image₀) s)
-  pub files : laid (d .files) i (filesIn (16 - i) (length image₀ - to) (drop at s)) ≡ laid (replicate mostFiles blankFile) 0 (filesIn mostFiles (length image₀) s)
-  pub bytes : laid image to (bytesIn (16 - i) (length image₀ - to) (drop at s)) ≡ laid image₀ 0 (bytesIn mostFiles (length image₀) s)
+  pub folders : d .folders ≡ e .folders
+  pub number : d .number ≡ e .number
+  pub count : i + length (filesIn form e (16 - i) (length image₀ - to) (drop at s)) ≡ length (filesIn form e mostFiles (length image₀) s)
+  pub files : laid (d .files) i (filesIn form e (16 - i) (length image₀ - to) (drop at s)) ≡ laid (replicate mostFiles blankFile) 0 (filesIn form e mostFiles (length image₀) s)
+  pub bytes : laid image to (bytesIn form (16 - i) (length image₀ - to) (drop at s)) ≡ laid image₀ 0 (bytesIn form mostFiles (length image₀) s)
 
-pub files-begin : (s image : List ℕ) (d : Directory) → d ≡ noFiles → FilesInv s image image d 0 0 0
-files-begin s image d e =
+pub files-begin : (form : Form) (e : Directory) (s image : List ℕ) → e .files ≡ replicate 16 blankFile → e .count ≡ 0 → FilesInv form e s image image e 0 0 0
+files-begin form e s image b c =
     let z : length image - 0 ≡ length image = omega arith in
-    record { low = omega arith; inside = omega arith; room = omega arith; near = omega arith; size = refl; counted = rw e; count = rw z (omega arith); files = rw (e, z); bytes = rw z }
+    record {
+      low = omega arith;
+      inside = omega arith;
+      room = omega arith;
+      near = omega arith;
+      size = refl;
+      counted = c;
+      folders = refl;
+      number = refl;
+      count = rw z (omega arith);
+      files = rw (b, z);
+      bytes = rw z;
+    }
 
-module _ (s image₀ image : List ℕ) (d : Directory) (at to i : ℕ) (inv : FilesInv s image₀ image d at to i) where
+module _ (form : Form) (e : Directory) (s image₀ image : List ℕ) (d : Directory) (at to i : ℕ) (inv : FilesInv form e s image₀ image d at to i) where
   abbrev left : ℕ
   left = length image₀ - to
 
-  finished : filesIn (16 - i) left (drop at s) ≡ [] → bytesIn (16 - i) left (drop at s) ≡ [] → LoadsAll s image₀ d image
-  unfolding laid directoryOf
-  finished e f =
-      let k : i + 0 ≡ length (filesIn mostFiles (length image₀) s) = rw e at (inv .count) in
-      let m : d .count ≡ length (filesIn mostFiles (length image₀) s) = inv .counted ∙ omega arith in
-      let q : d .files ≡ laid (replicate mostFiles blankFile) 0 (filesIn mostFiles (length image₀) s) = rw e at (inv .files) in
-      record { directory-is = rw (← q, ← m); left-is = rw f at (inv .bytes) }
+  finished : filesIn form e (16 - i) left (drop at s) ≡ [] → bytesIn form (16 - i) left (drop at s) ≡ [] → LoadsAll form e s image₀ d image
+  unfolding laid withFiles
+  finished h f =
+      let k : i + 0 ≡ length (filesIn form e mostFiles (length image₀) s) = rw h at (inv .count) in
+      let m : d .count ≡ length (filesIn form e mostFiles (length image₀) s) = inv .counted ∙ omega arith in
+      let q : d .files ≡ laid (replicate mostFiles blankFile) 0 (filesIn form e mostFiles (length image₀) s) = rw h at (inv .files) in
+      record { directory-is = rw (← q, ← m, ← inv .folders, ← inv .number); left-is = rw f at (inv .bytes) }
 
-  pub files-full : 16 ≤ i → LoadsAll s image₀ d image
+  pub files-full : 16 ≤ i → LoadsAll form e s image₀ d image
   unfolding filesIn bytesIn
   files-full h = let k : 16 - i ≡ 0 = omega arith in finished (rw k) (rw k)
 
   -- the next file, as the code has read it
-  module _ (rest : List ℕ) (f : File) (n start : ℕ) (h : i < 16) (e : rest ≡ drop at s) (g : f ≡ fileIn rest) (b : Bounded 65535 (size f) n) (r : Reaches s (skips 4 (drop at s)) start)
+  module _ (rest : List ℕ) (f : File) (n start : ℕ) (h : i < 16) (p : rest ≡ drop at s) (g : f ≡ housedIn e rest) (b : Bounded 65535 (size f) n) (r : Reaches s (contentsPart form (drop at s)) start)
       (t : Bool) (w : t ≡ every (leb 1 (length s - at) ∷ leb n (length image - to) ∷ leb (lengthFor n) (length s - start) ∷ [])) where
-    file-is : f ≡ fileIn (drop at s)
-    file-is = g ∙ ap fileIn e
+    file-is : f ≡ housedIn e (drop at s)
+    file-is = g ∙ ap (housedIn e) p
 
     size-is : n ≡ size (fileIn (drop at s))
-    size-is = b .is ∙ ap size file-is
+    size-is = b .is ∙ ap size file-is ∙ home-size (homeIn e (skips 4 (drop at s))) (fileIn (drop at s))
 
-    text-left : length s - start ≡ length (skips 4 (drop at s))
+    text-left : length s - start ≡ length (contentsPart form (drop at s))
     text-left = sym (length-drop start s) ∙ ap length (r .rest-is)
 
-    tested : t ≡ goesOn left (drop at s)
+    tested : t ≡ goesOn form left (drop at s)
     tested = w ∙ rw (← length-drop at s, inv .size, text-left, size-is)
 
     more : 16 - i ≡ suc (16 - (i + 1))
     more = omega arith
 
-    pub files-over : t ≡ false → LoadsAll s image₀ d image
+    pub files-over : t ≡ false → LoadsAll form e s image₀ d image
     unfolding filesIn bytesIn
     files-over z =
-        let q : goesOn left (drop at s) ≡ false = sym tested ∙ z in
+        let q : goesOn form left (drop at s) ≡ false = sym tested ∙ z in
         finished (rw (more, q)) (rw (more, q))
 
     pub file-inside : t ≡ true → (start + lengthFor n ≤ length s) × (to + n ≤ length image)
@@ -320,20 +412,20 @@ module _ (s image₀ image : List ℕ) (d : Directory) (at to i : ℕ) (inv : Fi
         let q = each (leb 1 (length s - at) ∷ leb n (length image - to) ∷ leb (lengthFor n) (length s - start) ∷ []) (sym w ∙ z) in
         (omega (arith, leb-true (lengthFor n) (length s - start) (q .1 .1), r .inside), omega (arith, leb-true n (length image - to) (q .1 .0), inv .room, inv .size))
 
-    pub files-goes : (next : ℕ) (d′ : Directory) (l : List ℕ) → t ≡ true → d′ ≡ added d f → Loads n s (drop start s) image to next l → FilesInv s image₀ l d′ next (to + n) (i + 1)
+    pub files-goes : (next : ℕ) (d′ : Directory) (l : List ℕ) → t ≡ true → d′ ≡ added d f → Loads n s (drop start s) image to next l → FilesInv form e s image₀ l d′ next (to + n) (i + 1)
     unfolding laid filesIn bytesIn
-    files-goes next d′ l z p c =
-        let q : goesOn left (drop at s) ≡ true = sym tested ∙ z in
-        let a : drop next s ≡ afterFile (drop at s) = c .rest-is ∙ ap₂ (λ (x : ℕ) (y : List ℕ). behind (linesFor x) x y) size-is (r .rest-is) in
-        let p′ : d′ ≡ record { files = set (d .files) i f; count = i + 1 } = p ∙ rw (inv .counted, lt-ltb i 16 h) in
-        let ct : contentsIn n (drop start s) ≡ contentsOf (drop at s) = ap₂ contentsIn size-is (r .rest-is) in
+    files-goes next d′ l z m c =
+        let q : goesOn form left (drop at s) ≡ true = sym tested ∙ z in
+        let a : drop next s ≡ afterFile form (drop at s) = c .rest-is ∙ ap₂ (λ (x : ℕ) (y : List ℕ). behind (linesFor x) x y) size-is (r .rest-is) in
+        let p′ : d′ ≡ record { files = set (d .files) i f; count = i + 1; folders = d .folders; number = d .number } = m ∙ rw (inv .counted, lt-ltb i 16 h) in
+        let ct : contentsIn n (drop start s) ≡ contentsOf form (drop at s) = ap₂ contentsIn size-is (r .rest-is) in
         let room′ : length image₀ - (to + n) ≡ left - size (fileIn (drop at s)) = rw (← size-is) (omega arith) in
-        let rest-files = filesIn (16 - (i + 1)) (left - size (fileIn (drop at s))) (afterFile (drop at s)) in
-        let cnt : i + suc (length (filesIn (16 - (i + 1)) (left - size (fileIn (drop at s))) (afterFile (drop at s)))) ≡ length (filesIn mostFiles (length image₀) s) = rw (more, q) at (inv .count) in
-        let fs : laid (set (d .files) i (fileIn (drop at s))) (suc i) (filesIn (16 - (i + 1)) (left - size (fileIn (drop at s))) (afterFile (drop at s))) ≡ laid (replicate mostFiles blankFile) 0 (filesIn mostFiles (length image₀) s) =
+        let rest-files = filesIn form e (16 - (i + 1)) (left - size (fileIn (drop at s))) (afterFile form (drop at s)) in
+        let cnt : i + suc (length (filesIn form e (16 - (i + 1)) (left - size (fileIn (drop at s))) (afterFile form (drop at s)))) ≡ length (filesIn form e mostFiles (length image₀) s) = rw (more, q) at (inv .count) in
+        let fs : laid (set (d .files) i (housedIn e (drop at s))) (suc i) (filesIn form e (16 - (i + 1)) (left - size (fileIn (drop at s))) (afterFile form (drop at s))) ≡ laid (replicate mostFiles blankFile) 0 (filesIn form e mostFiles (length image₀) s) =
         rw (more, q) at (inv .files) in
-        let bs : laid image to (contentsOf (drop at s) ++ bytesIn (16 - (i + 1)) (left - size (fileIn (drop at s))) (afterFile (drop at s))) ≡ laid image₀ 0 (bytesIn mostFiles (length image₀) s) = rw (more, q) at (inv .bytes) in
-        let len : to + n ≡ to + length (contentsOf (drop at s)) = ap (λ (x : ℕ). to + x) (size-is ∙ sym (contents-length (size (fileIn (drop at s))) (skips 4 (drop at s)))) in
+        let bs : laid image to (contentsOf form (drop at s) ++ bytesIn form (16 - (i + 1)) (left - size (fileIn (drop at s))) (afterFile form (drop at s))) ≡ laid image₀ 0 (bytesIn form mostFiles (length image₀) s) = rw (more, q) at (inv .bytes) in
+        let len : to + n ≡ to + length (contentsOf form (drop at s)) = ap (λ (x : ℕ). to + x) (size-is ∙ sym (contents-length (size (fileIn (drop at s))) (contentsPart form (drop at s)))) in
         record {
           low = omega arith;
           inside = c .inside;
@@ -341,12 +433,14 @@ module _ (s image₀ image : List ℕ) (d : Directory) (at to i : ℕ) (inv : Fi
           near = omega (arith, inv .near, b .low);
           size = ap length (c .left-is) ∙ laid-length image to (contentsIn n (drop start s)) ∙ inv .size;
           counted = ap (λ (x : Directory). x .count) p′;
+          folders = ap (λ (x : Directory). x .folders) p′ ∙ inv .folders;
+          number = ap (λ (x : Directory). x .number) p′ ∙ inv .number;
           count = rw (room′, a) (omega arith);
           files =
-              ap₂ (λ (x : List File) (j : ℕ). laid x j (filesIn (16 - (i + 1)) (length image₀ - (to + n)) (drop next s))) (ap (λ (y : Directory). y .files) p′ ∙ ap (set (d .files) i) file-is) (add-one i)
-              ∙ ap₂ (λ (m : ℕ) (x : List ℕ). laid (set (d .files) i (fileIn (drop at s))) (suc i) (filesIn (16 - (i + 1)) m x)) room′ a
+              ap₂ (λ (x : List File) (j : ℕ). laid x j (filesIn form e (16 - (i + 1)) (length image₀ - (to + n)) (drop next s))) (ap (λ (y : Directory). y .files) p′ ∙ ap (set (d .files) i) file-is) (add-one i)
+              ∙ ap₂ (λ (m : ℕ) (x : List ℕ). laid (set (d .files) i (housedIn e (drop at s))) (suc i) (filesIn form e (16 - (i + 1)) m x)) room′ a
               ∙ fs;
           bytes =
               rw (room′, c .left-is, ct, a, len)
-              (laid-append image (contentsOf (drop at s)) (bytesIn (16 - (i + 1)) (left - size (fileIn (drop at s))) (afterFile (drop at s))) to ∙ bs);
+              (laid-append image (contentsOf form (drop at s)) (bytesIn form (16 - (i + 1)) (left - size (fileIn (drop at s))) (afterFile form (drop at s))) to ∙ bs);
         }

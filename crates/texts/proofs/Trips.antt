@@ -1,28 +1,31 @@
 -- A sound card written and read, and an accepted text read and written.
 -- Assumes nothing.
-use Prim.Native.Nat.{ℕ, zero, suc, _+_, _-_, _*_, _%_, _≤_, _<_}
-use mathlib.Core.Bool.{Bool, true, false, _||_}
+use Prim.Native.Nat.{ℕ, zero, suc, _+_, _-_, _*_, _%_, _≤_, _<_, min}
+use mathlib.Core.Bool.{Bool, true, false, cond, _||_}
 use mathlib.Core.List.{List, [], _∷_, _++_, map, append-assoc}
 use mathlib.Core.Path.{_≡_, refl, sym, ap, _∙_}
 use mathlib.Core.Logic.{by-cases}
 use native.Mathlib.Decide.{decLt}
 use native.Mathlib.Omega.{arith}
 use lib.Dec.{eqb, leb}
-use lib.ListN.{length, take, drop, replicate, length-drop, length-append, length-replicate, take-append-drop, getD-replicate}
+use lib.ListN.{length, getD, take, drop, replicate, length-drop, length-append, length-replicate, take-append-drop, getD-replicate}
 use lib.Seq.{length-take-le, ext-getD, getD-drop}
 use borrow.Author.Tests.{eqb-true, eqb-false, eq-eqb, ne-eqb, leb-true, le-leb, lt-ltb, le-ltb}
 use Rattle.files.specs.declared.File.{File}
+use Rattle.files.specs.declared.Folder.{Folder}
 use Rattle.files.specs.declared.Directory.{Directory}
-use Rattle.files.specs.Words.{isZero}
+use Rattle.files.specs.Words.{seek, isZero, two}
 use Rattle.files.specs.Part.{part, over, zeros}
-use Rattle.files.specs.State.{blankFile}
+use Rattle.files.specs.State.{blankFile, blankFolder}
 use Rattle.files.specs.Types.{size}
-use Rattle.files.specs.Directory.{mostFiles, fid, sfi, used, fileAt, startAt, file, start, extent, end, seek, ofFid, ofSfi, findFid}
-use Rattle.files.specs.Create.{areaSize}
-use Rattle.files.specs.Sound.{soundFile, unusedPlace, alone}
-use Rattle.files.proofs.Checks.{both, each, split}
+use Rattle.files.specs.Directory.{mostFiles, fid, sfi, goodSfi, used, fileAt, startAt, file, start, extent, end, ofFid, ofSfi, here, findFid, folderFid, folderAt, folder, folderHere, findFolder}
+use Rattle.files.specs.Create.{areaSize, goodFolder, housed, apart}
+use Rattle.files.specs.Sound.{soundFile, unusedPlace, alone, unusedFolder, soundFolder}
+use Rattle.files.proofs.Checks.{both, each, join, split, clash}
 use Rattle.files.proofs.Extents.{used-is, start-next}
 use Rattle.files.proofs.Sought.{seek-absent}
+use Rattle.files.proofs.Folders.{Foldered, folder-good, folder-alone}
+use Rattle.files.specs.Rights.{goodRights}
 use Rattle.files.proofs.Parts.{part-front}
 use Rattle.files.proofs.Kept.{Filed, filed}
 use Rattle.rules.specs.declared.Credential.{Credential}
@@ -30,49 +33,127 @@ use Rattle.rules.specs.declared.Session.{Session}
 use Rattle.rules.specs.declared.Response.{Response}
 use Rattle.rules.specs.declared.Card.{Card}
 use Rattle.rules.specs.Calls.{answer}
-use Rattle.rules.specs.Words.{allOf, same}
+use Rattle.rules.specs.Words.{byte, allOf, same}
 use Rattle.rules.specs.State.{Which, device, admin, user, whiches, numberOf, noCredential, credential, valueOf, challenge, responseSize, waitCount}
 use Rattle.rules.specs.Sound.{goodValue, soundValue, goodChallenge, soundChallenge, soundResponse, sound}
-use Rattle.rules.proofs.Good.{Good, Tried, numbered, sound-good, sound-parted, sound-both, said-short, responded}
+use Rattle.rules.proofs.Good.{Good, Lies, Tried, numbered, sound-good, sound-parted, sound-both, said-short, responded}
 use Rattle.rules.proofs.Equal.{same-equal, equal-same}
-use Rattle.texts.specs.Text.{credentialLine, credentialLines, currentFid, fidBytes, sessionLine, filesText, text}
-use Rattle.texts.specs.Reading.{skips, currentIn, credentialIn, sessionIn, responseIn, bytesIn, directoryOf, sessionPart, filesPart, directoryIn, cardIn, areaIn, laid}
+use Rattle.texts.specs.Text.{Form, credentialLine, credentialLines, currentFid, fidBytes, folderBytes, homeFid, tail, sessionLine, folderLines, folderCount, filesText, text, ofForm}
+use Rattle.texts.specs.Reading.{skips, hexIn, homeIn, currentIn, credentialIn, sessionIn, responseIn, bytesIn, foldersIn, mostFoldersOf, foldered, withFiles, sessionPart, foldersPart, foldersRead, filesPart, directoryIn, cardIn, areaIn, laid}
 use Rattle.texts.specs.Calls.{toText, wrote, Got, fromText, got, accepted, kept}
-use Rattle.texts.specs.Laws.{Bytes, FileBytes, SoundCard, WrittenRead, ReadWritten}
-use Rattle.texts.proofs.Cards.{Front, credential-end, credential-back, each-kept, session-end, session-back, response-back, bytes-nil, fid-bytes}
-use Rattle.texts.proofs.Contents.{AllTold, files-back, bytes-back, text-front, laid-front, laid-length, drop-replicate, bytes-take}
+use Rattle.texts.specs.Laws.{Bytes, FileBytes, FolderBytes, SoundCard, WrittenRead, ReadWritten}
+use Rattle.texts.proofs.Cards.{Front, Homes, bytes-cons, folder-bytes, credential-end, credential-back, each-kept, session-end, session-back, response-back, bytes-nil, fid-bytes}
+use Rattle.texts.proofs.Contents.{AllSaid, files-back, bytes-back, folders-back, folders-end, files-no-folder, text-front, laid-front, laid-length, drop-replicate, bytes-take}
 use Rattle.texts.proofs.Counts.{told}
+use Rattle.texts.proofs.Lines.{hex-first}
 
--- a FID names its file alone, since SFIs differ
-seek-alone : (p : File → Bool) (files : List File) (n i : ℕ) → i < n → p (fileAt files i) ≡ true → ((j : ℕ) → i < j → j < n → p (fileAt files j) ≡ false)
-    → seek p files n ≡ suc i
-unfolding seek
-seek-alone p files zero i l h o = absurd (omega arith)
-seek-alone p files (suc n) i l h o =
-    by-cases (decLt i n)
-    (λ m. rw (o n m (omega arith)) (seek-alone p files n i m h (λ j a b. o j a (omega arith))))
-    (λ m. let q : n ≡ i = omega arith in rw (q, h))
+-- a search finds the one place that passes, and none where none does
+module _ (p : ℕ → Bool) where
+  seek-alone : (n i : ℕ) → i < n → p i ≡ true → ((j : ℕ) → i < j → j < n → p j ≡ false) → seek p n ≡ suc i
+  unfolding seek
+  seek-alone zero i l h o = absurd (omega arith)
+  seek-alone (suc n) i l h o =
+      by-cases (decLt i n)
+      (λ m. rw (o n m (omega arith)) (seek-alone n i m h (λ j a b. o j a (omega arith))))
+      (λ m. let q : n ≡ i = omega arith in rw (q, h))
 
-sfi-other : (files : List File) (i j : ℕ) → i < j → alone files j ≡ true → (sfi (fileAt files i) ≡ sfi (fileAt files j) → ⊥)
-sfi-other files i j l a = eqb-false _ _ (seek-absent (ofSfi (sfi (fileAt files j))) files j (eqb-true _ _ a) i l)
+  seek-nothing : (n : ℕ) → ((i : ℕ) → i < n → p i ≡ false) → seek p n ≡ 0
+  unfolding seek
+  seek-nothing zero h = refl
+  seek-nothing (suc n) h = rw (h n (omega arith)) (seek-nothing n (λ i l. h i (omega arith)))
 
-fid-alone : (d : Directory) → Filed d → (i : ℕ) → i < d .count → findFid d (fid (fileAt (d .files) i)) ≡ suc i
+pub not-so : (b : Bool) → (b ≡ true → ⊥) → b ≡ false
+not-so true h = absurd (h refl)
+not-so false h = refl
+
+-- a FID names its file alone in its directory, since SFIs differ
+module _ (files : List File) (i j : ℕ) (l : i < j) (a : alone files j ≡ true) where
+  abbrev fi : File
+  fi = fileAt files i
+
+  abbrev fj : File
+  fj = fileAt files j
+
+  fid-other : ofFid (fi .folder) (fid fi) fj ≡ false
+  fid-other =
+      not-so (ofFid (fi .folder) (fid fi) fj)
+      (λ t. let k = each (eqb (fj .folder) (fi .folder) ∷ eqb (fid fj) (fid fi) ∷ []) t in
+      clash (ofSfi (fj .folder) (sfi fj) fi)
+      (join (eq-eqb (fi .folder) (fj .folder) (sym (eqb-true _ _ (k .0)))) (eq-eqb (sfi fi) (sfi fj) (ap (λ (n : ℕ). n % 32) (sym (eqb-true _ _ (k .1))))))
+      (seek-absent (here (ofSfi (fj .folder) (sfi fj)) files) j (eqb-true _ _ a) i l))
+
+fid-alone : (d : Directory) → Filed d → (i : ℕ) → i < d .count → findFid d (fileAt (d .files) i .folder) (fid (fileAt (d .files) i)) ≡ suc i
 unfolding findFid
 fid-alone d g i h =
+    let f = fileAt (d .files) i in
     rw (used-is d (g .few))
-    (seek-alone (ofFid (fid (fileAt (d .files) i))) (d .files) (d .count) i h (eq-eqb (fid (fileAt (d .files) i)) (fid (fileAt (d .files) i)) refl)
-    (λ j l m. ne-eqb (fid (fileAt (d .files) j)) (fid (fileAt (d .files) i)) (λ e. sfi-other (d .files) i j l (g .each-sfi j m) (ap (λ (n : ℕ). n % 32) (sym e)))))
+    (seek-alone (here (ofFid (f .folder) (fid f)) (d .files)) (d .count) i h (join (eq-eqb (f .folder) (f .folder) refl) (eq-eqb (fid f) (fid f) refl))
+    (λ j l m. fid-other (d .files) i j l (g .each-sfi j m)))
 
 current-some : (d : Directory) (i : ℕ) → currentFid d (suc i) ≡ fidBytes (fileAt (d .files) i)
 current-some d i = let k : suc i - 1 ≡ i = omega arith in rw (ne-eqb (suc i) 0 (λ (e : suc i ≡ 0). omega arith), k)
 
-current-back : (d : Directory) → Filed d → (cur : ℕ) → cur ≤ d .count → currentIn d (currentFid d cur) ≡ cur
-current-back d g zero h = refl
-current-back d g (suc i) h = ap (currentIn d) (current-some d i) ∙ fid-alone d g i (omega arith)
+lies-in : (d : Directory) (i n : ℕ) → Lies d (suc i) n → fileAt (d .files) i .folder ≡ n
+lies-in d i n h = let k : suc i - 1 ≡ i = omega arith in eqb-true _ _ (rw (ne-eqb (suc i) 0 (λ (e : suc i ≡ 0). omega arith), k) at h)
+
+current-back : (d : Directory) → Filed d → (cur n : ℕ) → cur ≤ d .count → Lies d cur n → currentIn d n (currentFid d cur) ≡ cur
+current-back d g zero n h l = refl
+current-back d g (suc i) n h l = ap (currentIn d n) (current-some d i) ∙ rw (← lies-in d i n l) (fid-alone d g i (omega arith))
+
+-- a directory's FID names it alone, and 3F00 names none
+module _ (folders : List Folder) (number : ℕ) (g : Foldered folders number) where
+  folder-other : (i j : ℕ) → i < j → j < number → folderHere (folderFid (folderAt folders i)) folders j ≡ false
+  folder-other i j l m =
+      ne-eqb (folderFid (folderAt folders j)) (folderFid (folderAt folders i))
+      (λ e. eqb-false _ _ (seek-absent (folderHere (folderFid (folderAt folders j)) folders) j (eqb-true _ _ (folder-alone folders number g j m)) i l) (sym e))
+
+  folder-one : (i : ℕ) → i < number → seek (folderHere (folderFid (folderAt folders i)) folders) (min number 4) ≡ suc i
+  folder-one i h =
+      let q : min number 4 ≡ number = omega (arith, g .few) in
+      rw q
+      (seek-alone (folderHere (folderFid (folderAt folders i)) folders) number i h (eq-eqb (folderFid (folderAt folders i)) (folderFid (folderAt folders i)) refl)
+      (λ j l m. folder-other i j l m))
+
+  no-root : (i : ℕ) → i < number → folderHere 0x3F00 folders i ≡ false
+  unfolding goodFolder
+  no-root i h =
+      let x = folderAt folders i in
+      let e = each (goodSfi (folderFid x % 32) ∷ goodRights (x .right) ∷ []) (folder-good folders number g i h) in
+      let low : 1 ≤ folderFid x % 32 = leb-true _ _ (each (leb 1 (folderFid x % 32) ∷ leb (folderFid x % 32) 30 ∷ []) (e .0) .0) in
+      ne-eqb (folderFid x) 0x3F00 (λ z. omega arith)
+
+  root-none : seek (folderHere 0x3F00 folders) (min number 4) ≡ 0
+  root-none = seek-nothing (folderHere 0x3F00 folders) (min number 4) (λ i l. no-root i (omega arith))
+
+home-some : (d : Directory) (i : ℕ) → homeFid d (suc i) ≡ folderBytes (folderAt (d .folders) i)
+home-some d i = let k : suc i - 1 ≡ i = omega arith in rw (ne-eqb (suc i) 0 (λ (e : suc i ≡ 0). omega arith), k)
+
+root-bytes : Bytes (0x3F ∷ 0x00 ∷ [])
+root-bytes = bytes-cons 0x3F (0x00 ∷ []) (omega arith) (bytes-cons 0x00 [] (omega arith) bytes-nil)
+
+-- so a home is read back, by any directory of the same directories
+module _ (e d : Directory) (p : e .folders ≡ d .folders) (q : e .number ≡ d .number) (g : Foldered (d .folders) (d .number)) (b : (i : ℕ) → FolderBytes (folderAt (d .folders) i)) where
+  homes : (form : Form) (n : ℕ) → cond form true (isZero (d .number)) ≡ true → n ≤ d .number → Homes form e d n
+  unfolding homeIn findFolder
+  homes true zero o h r = rw (hex-first 2 (0x3F ∷ 0x00 ∷ []) [] r (omega arith) root-bytes, p, q) (root-none (d .folders) (d .number) g)
+  homes true (suc i) o h r =
+      rw (home-some d i, hex-first 2 (folderBytes (folderAt (d .folders) i)) [] r (omega arith) (folder-bytes (folderAt (d .folders) i) (b i)), p, q)
+      (folder-one (d .folders) (d .number) g i (omega arith))
+  homes false n o h r =
+      let z : d .number ≡ 0 = eqb-true _ _ o in
+      let m : n ≡ 0 = omega arith in
+      rw (q, z, m) none
+    where
+      none : seek (folderHere (two (byte (hexIn 2 r) 0) (byte (hexIn 2 r) 1)) (e .folders)) 0 ≡ 0
+      none = seek-nothing _ 0 (λ i l. absurd (omega arith))
 
 pub current-short : (d : Directory) (cur : ℕ) → length (currentFid d cur) ≤ 2
 current-short d zero = omega arith
 current-short d (suc i) = rw (current-some d i) (omega arith)
+
+pub home-short : (d : Directory) (n : ℕ) → length (homeFid d n) ≤ 2
+home-short d zero = omega arith
+home-short d (suc i) = rw (home-some d i) (omega arith)
 
 current-bytes : (d : Directory) (cur : ℕ) → ((i : ℕ) → FileBytes (fileAt (d .files) i)) → Bytes (currentFid d cur)
 current-bytes d zero b = bytes-nil
@@ -84,7 +165,7 @@ unfolding unusedPlace
 unused-blank f h =
     let e =
     each (isZero (f .fid1) ∷ isZero (f .fid2) ∷ isZero (f .kind) ∷ isZero (f .size1) ∷ isZero (f .size2) ∷ isZero (f .read) ∷ isZero (f .write) ∷ isZero (f .held) ∷ isZero (f .newest)
-    ∷ isZero (f .used1) ∷ isZero (f .used2) ∷ []) h in
+    ∷ isZero (f .used1) ∷ isZero (f .used2) ∷ isZero (f .folder) ∷ []) h in
     rw (
       eqb-true (f .fid1) 0 (e .0),
       eqb-true (f .fid2) 0 (e .1 .0),
@@ -96,8 +177,31 @@ unused-blank f h =
       eqb-true (f .held) 0 (e .1 .1 .1 .1 .1 .1 .1 .0),
       eqb-true (f .newest) 0 (e .1 .1 .1 .1 .1 .1 .1 .1 .0),
       eqb-true (f .used1) 0 (e .1 .1 .1 .1 .1 .1 .1 .1 .1 .0),
-      eqb-true (f .used2) 0 (e .1 .1 .1 .1 .1 .1 .1 .1 .1 .1),
+      eqb-true (f .used2) 0 (e .1 .1 .1 .1 .1 .1 .1 .1 .1 .1 .0),
+      eqb-true (f .folder) 0 (e .1 .1 .1 .1 .1 .1 .1 .1 .1 .1 .1),
     )
+
+-- and past the last directory
+unused-folder : (x : Folder) → unusedFolder x ≡ true → x ≡ blankFolder
+unfolding unusedFolder
+unused-folder x h =
+    let e = each (isZero (x .fid1) ∷ isZero (x .fid2) ∷ isZero (x .right) ∷ []) h in
+    rw (eqb-true (x .fid1) 0 (e .0), eqb-true (x .fid2) 0 (e .1 .0), eqb-true (x .right) 0 (e .1 .1))
+
+folder-blank : (folders : List Folder) (number : ℕ) → Foldered folders number → (i : ℕ) → number ≤ i → i < 4 → folderAt folders i ≡ blankFolder
+unfolding soundFolder
+folder-blank folders number g i h l = unused-folder (folderAt folders i) (rw (le-ltb i number h) at (g .each-folder i l))
+
+-- the used places laid over blank ones are all places
+laid-back : {A : Type 0} (none : A) (m n : ℕ) (xs : List A) → length xs ≡ m → n ≤ m → ((i : ℕ) → n ≤ i → i < m → getD xs i none ≡ none) → laid (replicate m none) 0 (take n xs) ≡ xs
+laid-back none m n xs places few blank =
+    let l : length (take n xs) ≡ n = length-take-le n xs (omega arith) in
+    let rest : drop n (replicate m none) ≡ drop n xs =
+    ext-getD none (drop n (replicate m none)) (drop n xs) (length-drop n (replicate m none) ∙ ap (λ (k : ℕ). k - n) (length-replicate m none ∙ sym places) ∙ sym (length-drop n xs))
+    (λ i h.
+    let k : n + i < m = omega (arith, h, length-drop n (replicate m none), length-replicate m none) in
+    getD-drop n (replicate m none) i none ∙ getD-replicate m (n + i) none none k ∙ sym (getD-drop n xs i none ∙ blank (n + i) (omega arith) k)) in
+    laid-front (replicate m none) (take n xs) (omega (arith, l, length-replicate m none)) ∙ rw (l, rest) (take-append-drop n xs)
 
 module _ (d : Directory) (g : Filed d) where
   place-blank : (i : ℕ) → d .count ≤ i → i < 16 → fileAt (d .files) i ≡ blankFile
@@ -109,23 +213,25 @@ module _ (d : Directory) (g : Filed d) where
   pub place-fits : (i : ℕ) → i < d .count → size (fileAt (d .files) i) ≤ 4096
   place-fits i h = omega (arith, start-next (d .files) i (d .count) h, g .room)
 
-  blanks : drop (d .count) (replicate 16 blankFile) ≡ drop (d .count) (d .files)
-  blanks =
-      ext-getD blankFile (drop (d .count) (replicate 16 blankFile)) (drop (d .count) (d .files))
-      (length-drop (d .count) (replicate 16 blankFile) ∙ sym (length-drop (d .count) (d .files) ∙ ap (λ (n : ℕ). n - d .count) (g .places)))
-      (λ i h.
-      let l : d .count + i < 16 = omega (arith, h, length-drop (d .count) (replicate 16 blankFile), g .few) in
-      getD-drop (d .count) (replicate 16 blankFile) i blankFile ∙ getD-replicate 16 (d .count + i) blankFile blankFile l
-      ∙ sym (getD-drop (d .count) (d .files) i blankFile ∙ place-blank (d .count + i) (omega arith) l))
+  abbrev bare : Directory
+  bare = foldered (take (d .number) (d .folders))
 
-  directory-back : directoryOf (take (d .count) (d .files)) ≡ d
-  unfolding directoryOf
+  folders-same : bare .folders ≡ d .folders
+  unfolding foldered
+  folders-same = laid-back blankFolder 4 (d .number) (d .folders) (g .folders .places) (g .folders .few) (folder-blank (d .folders) (d .number) (g .folders))
+
+  number-same : bare .number ≡ d .number
+  unfolding foldered
+  number-same = length-take-le (d .number) (d .folders) (omega (arith, g .folders .places, g .folders .few))
+
+  directory-back : withFiles bare (take (d .count) (d .files)) ≡ d
+  unfolding withFiles
   directory-back =
       let n : length (take (d .count) (d .files)) ≡ d .count = length-take-le (d .count) (d .files) (omega (arith, g .places, g .few)) in
-      let e : laid (replicate 16 blankFile) 0 (take (d .count) (d .files)) ≡ d .files =
-      laid-front (replicate 16 blankFile) (take (d .count) (d .files)) (omega (arith, n, g .few, length-replicate 16 blankFile))
-      ∙ rw (n, blanks) (take-append-drop (d .count) (d .files)) in
-      rw (e, n)
+      rw (laid-back blankFile 16 (d .count) (d .files) (g .places) (g .few) place-blank, n, folders-same, number-same)
+
+  pub home-low : (i : ℕ) → i < d .count → fileAt (d .files) i .folder ≤ d .number
+  home-low i h = leb-true _ _ (each (housed d (fileAt (d .files) i) ∷ apart d (fileAt (d .files) i) ∷ []) (g .each-home i h) .0)
 
 -- what a sound card says of its numbers
 pub tries-low : (x : Credential) (held : Bool) → Tried (x .tries) held → (x .tries .limit ≤ 128) × (x .tries .left ≤ 128)
@@ -158,7 +264,7 @@ front-part b n e area z h l =
     part-front b n (take e area) z (omega arith) ∙ sym (part-front b n (take e area) (drop e area) (omega arith)) ∙ ap (part b n) (take-append-drop e area)
 
 -- a sound card, written
-module _ (c : Card) (area : List ℕ) (ok : SoundCard c area) where
+module _ (form : Form) (c : Card) (area : List ℕ) (ok : SoundCard form c area) where
   abbrev d : Directory
   d = c .directory
 
@@ -174,8 +280,17 @@ module _ (c : Card) (area : List ℕ) (ok : SoundCard c area) where
   room : startAt (d .files) (d .count) ≤ length area
   room = omega (arith, fd .room, ok .size)
 
-  all-told : AllTold (d .files) (d .count)
-  all-told i h = told (fileAt (d .files) i) (place-sound d fd i h) (ok .card-bytes .files i) (place-fits d fd i h)
+  abbrev e : Directory
+  e = foldered (take (d .number) (d .folders))
+
+  home-read : (x : Directory) → x .folders ≡ d .folders → x .number ≡ d .number → (n : ℕ) → n ≤ d .number → Homes form x d n
+  home-read x p q n h = homes x d p q (fd .folders) (ok .card-bytes .folders) form n (ok .of-form) h
+
+  all-said : AllSaid form e d (d .files) (d .count)
+  all-said i h = record {
+    told = told (fileAt (d .files) i) (place-sound d fd i h) (ok .card-bytes .files i) (place-fits d fd i h);
+    homed = home-read e (folders-same d fd) (number-same d fd) (fileAt (d .files) i .folder) (home-low d fd i h);
+  }
 
   credential-at : (w : Which) (r : List ℕ) → credentialIn (credentialLine (credential c (numberOf w)) ++ r) ≡ credential c (numberOf w)
   credential-at w r =
@@ -185,70 +300,95 @@ module _ (c : Card) (area : List ℕ) (ok : SoundCard c area) where
       (omega (arith, t .0)) (omega (arith, t .1))
 
   abbrev filesPage : List ℕ
-  filesPage = filesText (take (used d) (d .files)) area
+  filesPage = filesText form d (take (used d) (d .files)) area
+
+  abbrev foldersPage : List ℕ
+  foldersPage = folderLines (take (folderCount d) (d .folders)) ++ filesPage
 
   abbrev sessionPage : List ℕ
-  sessionPage = sessionLine c ++ filesPage
+  sessionPage = sessionLine form c ++ foldersPage
 
   -- the text, credential by credential
   abbrev lineOf : Which → List ℕ
   lineOf w = credentialLine (credential c (numberOf w))
 
-  text-is : text c area ≡ lineOf device ++ (lineOf admin ++ (lineOf user ++ sessionPage))
+  text-is : text form c area ≡ lineOf device ++ (lineOf admin ++ (lineOf user ++ sessionPage))
   unfolding text credentialLines
   text-is =
       append-assoc (lineOf device) (lineOf admin ++ lineOf user) sessionPage ∙ ap (λ (l : List ℕ). lineOf device ++ l) (append-assoc (lineOf admin) (lineOf user) sessionPage)
 
-  pub session-page : sessionPart (text c area) ≡ sessionPage
+  pub session-page : sessionPart (text form c area) ≡ sessionPage
   session-page = rw (text-is, credential-end (credential c 0), credential-end (credential c 1), credential-end (credential c 2))
 
-  files-page : filesPart (text c area) ≡ filesPage
-  files-page = rw session-page (session-end c filesPage)
+  folders-page : foldersPart form (text form c area) ≡ foldersPage
+  folders-page = rw session-page (session-end form c foldersPage)
 
-  directory-is : directoryIn (text c area) ≡ d
+  folders-counted : folderCount d ≡ d .number
+  unfolding folderCount
+  folders-counted = omega (arith, fd .folders .few)
+
+  few-read : (x : Form) → cond x true (isZero (d .number)) ≡ true → d .number ≤ mostFoldersOf x
+  few-read true o = fd .folders .few
+  few-read false o = let z : d .number ≡ 0 = eqb-true _ _ o in omega arith
+
+  folders-there : d .number ≤ length (d .folders)
+  folders-there = omega (arith, fd .folders .places, fd .folders .few)
+
+  folders-are : foldersRead form (text form c area) ≡ take (d .number) (d .folders)
+  unfolding foldersRead
+  folders-are =
+      rw (folders-page, folders-counted)
+      (folders-back (d .number) (mostFoldersOf form) (d .folders) filesPage (few-read form (ok .of-form)) folders-there (λ i l. ok .card-bytes .folders i) (files-no-folder form d (take (used d) (d .files)) area))
+
+  files-page : filesPart form (text form c area) ≡ filesPage
+  unfolding filesPart
+  files-page =
+      rw (folders-are, folders-page, folders-counted, length-take-le (d .number) (d .folders) folders-there) (folders-end (d .number) (d .folders) filesPage folders-there)
+
+  directory-is : directoryIn form (text form c area) ≡ d
   directory-is =
-      rw (files-page, count-is, files-back (d .count) mostFiles areaSize (d .files) area (fd .few) (omega (arith, fd .places, fd .few)) (fd .room) room all-told) (directory-back d fd)
+      rw (folders-are, files-page, count-is, files-back form e d (d .count) mostFiles areaSize (d .files) area (fd .few) (omega (arith, fd .places, fd .few)) (fd .room) room all-said) (directory-back d fd)
 
-  area-is : areaIn (text c area) ≡ kept c area
+  pub area-is : areaIn form (text form c area) ≡ kept c area
   unfolding areaIn kept
   area-is =
       let n : length (take (startAt (d .files) (d .count)) area) ≡ startAt (d .files) (d .count) = length-take-le (startAt (d .files) (d .count)) area room in
-      rw (files-page, count-is, bytes-back (d .count) mostFiles areaSize (d .files) area (fd .few) (omega (arith, fd .places, fd .few)) (fd .room) room all-told (ok .area-bytes))
+      rw (files-page, count-is, bytes-back form e d (d .count) mostFiles areaSize (d .files) area (fd .few) (omega (arith, fd .places, fd .few)) (fd .room) room all-said (ok .area-bytes))
       (laid-front (zeros areaSize) (take (startAt (d .files) (d .count)) area) (omega (arith, n, fd .room, length-replicate {A = ℕ} areaSize 0))
       ∙ ap (λ (l : List ℕ). take (startAt (d .files) (d .count)) area ++ l) (ap (λ (k : ℕ). drop k (zeros areaSize)) n ∙ drop-replicate (startAt (d .files) (d .count)) areaSize 0))
 
-  device-is : credentialIn (text c area) ≡ credential c 0
+  device-is : credentialIn (text form c area) ≡ credential c 0
   device-is = ap credentialIn text-is ∙ credential-at device _
 
-  admin-is : credentialIn (skips 3 (text c area)) ≡ credential c 1
+  admin-is : credentialIn (skips 3 (text form c area)) ≡ credential c 1
   admin-is = rw (text-is, credential-end (credential c 0)) (credential-at admin _)
 
-  user-is : credentialIn (skips 6 (text c area)) ≡ credential c 2
+  user-is : credentialIn (skips 6 (text form c area)) ≡ credential c 2
   user-is = rw (text-is, credential-end (credential c 0), credential-end (credential c 1)) (credential-at user _)
 
-  credentials-are : map (λ (w : Which). credentialIn (skips (3 * numberOf w) (text c area))) whiches ≡ c .credentials
+  credentials-are : map (λ (w : Which). credentialIn (skips (3 * numberOf w) (text form c area))) whiches ≡ c .credentials
   credentials-are = rw (device-is, admin-is, user-is) (each-kept (c .credentials) noCredential (g .all-there))
 
-  session-is : sessionIn d (sessionPart (text c area)) ≡ c .session
+  session-is : sessionIn d (sessionPart (text form c area)) ≡ c .session
   session-is =
       rw session-page
-      (session-back c filesPage (g .all-kept) (λ w. omega (arith, g .credited (numberOf w) (numbered w) .low)) (current-short d (c .session .current)) (current-bytes d (c .session .current) (ok .card-bytes .files))
-      (current-back d fd (c .session .current) (g .current)) (challenge-front (c .session) (g .challenge) (ok .card-bytes .challenge)))
+      (session-back form c foldersPage (g .all-kept) (λ w. omega (arith, g .credited (numberOf w) (numbered w) .low)) (current-short d (c .session .current)) (current-bytes d (c .session .current) (ok .card-bytes .files))
+      (home-read d refl refl (c .session .folder) (g .folder)) (current-back d fd (c .session .current) (c .session .folder) (g .current) (g .lies)) (challenge-front (c .session) (g .challenge) (ok .card-bytes .challenge)))
 
-  response-is : responseIn (sessionPart (text c area)) ≡ c .response
+  response-is : responseIn (sessionPart (text form c area)) ≡ c .response
   response-is =
       rw session-page
-      (response-back c filesPage (ok .card-bytes .response .mode) (ok .card-bytes .response .count2) (response-front (c .response) (g .response) (ok .card-bytes .response .bytes)))
+      (response-back form c foldersPage (ok .card-bytes .response .mode) (ok .card-bytes .response .count2) (response-front (c .response) (g .response) (ok .card-bytes .response .bytes)))
 
-  card-is : cardIn (text c area) ≡ c
+  pub card-is : cardIn form (text form c area) ≡ c
   unfolding cardIn
   card-is = rw (directory-is, credentials-are, session-is, response-is)
 
   -- the text has the bytes of the files and no others
-  text-kept : text c (kept c area) ≡ text c area
+  pub text-kept : (b : Form) → text b c (kept c area) ≡ text b c area
   unfolding text kept
-  text-kept =
-      rw (count-is, text-front (d .count) (d .files) area (zeros (areaSize - startAt (d .files) (d .count))) (omega (arith, fd .places, fd .few)) room)
+  text-kept b =
+      rw (count-is, text-front b d (d .count) (d .files) area (zeros (areaSize - startAt (d .files) (d .count))) (omega (arith, fd .places, fd .few)) room)
 
   -- and so has soundness
   end-fits : end d ≤ length area
@@ -263,47 +403,55 @@ module _ (c : Card) (area : List ℕ) (ok : SoundCard c area) where
   unfolding kept
   kept-length = omega (arith, length-append (take (end d) area) (zeros (areaSize - end d)), length-take-le (end d) area end-fits)
 
-  kept-sound : sound c (kept c area) ≡ true
+  pub kept-sound : sound c (kept c area) ≡ true
   kept-sound =
       let p = sound-parted c area (ok .is-sound) in
       sound-both c (kept c area) g
       (record { room = kept-length; each-parted = λ place h l. rw (extent-kept place h l) (p .each-parted place h l) })
 
-  pub text-accepted : accepted (text c area) ≡ true
+  pub text-accepted : accepted form (text form c area) ≡ true
   unfolding accepted
-  text-accepted = rw (card-is, area-is, text-kept, kept-sound) (equal-same (text c area) (text c area) refl)
+  text-accepted = rw (card-is, area-is, text-kept form, kept-sound) (equal-same (text form c area) (text form c area) refl)
 
-  pub written-back : (lent : List ℕ) → length lent ≡ areaSize → fromText (text c area) lent ≡ got 0 c (kept c area)
+  pub written-back : (lent : List ℕ) → length lent ≡ areaSize → fromText form (text form c area) lent ≡ got 0 c (kept c area)
   unfolding fromText
   written-back lent size = rw (eq-eqb _ _ size, text-accepted, card-is, area-is)
 
-pub written-read : WrittenRead
-written-read c area lent ok size = written-back c area ok lent size
+pub written-read : (form : Form) → WrittenRead form
+written-read form c area lent ok size = written-back form c area ok lent size
 
 -- an accepted text is the text of what it is read as
-pub read-text : (s : List ℕ) → accepted s ≡ true → (sound (cardIn s) (areaIn s) ≡ true) × (text (cardIn s) (areaIn s) ≡ s)
+pub read-text : (form : Form) (s : List ℕ) → accepted form s ≡ true → (sound (cardIn form s) (areaIn form s) ≡ true) × (text form (cardIn form s) (areaIn form s) ≡ s)
 unfolding accepted
-read-text s h =
-    let k = both (sound (cardIn s) (areaIn s)) (same s (text (cardIn s) (areaIn s))) h in
-    (k .0, sym (same-equal s (text (cardIn s) (areaIn s)) (k .1)))
+read-text form s h =
+    let k = both (sound (cardIn form s) (areaIn form s)) (same s (text form (cardIn form s) (areaIn form s))) h in
+    (k .0, sym (same-equal s (text form (cardIn form s) (areaIn form s)) (k .1)))
 
-pub area-length : (s : List ℕ) → length (areaIn s) ≡ areaSize
+-- of the old form no directory is read
+pub read-form : (form : Form) (s : List ℕ) → ofForm form (cardIn form s) ≡ true
+unfolding cardIn withFiles foldered foldersRead foldersIn
+read-form true s = refl
+read-form false s = refl
+
+pub area-length : (form : Form) (s : List ℕ) → length (areaIn form s) ≡ areaSize
 unfolding areaIn
-area-length s = laid-length (zeros areaSize) 0 (bytesIn mostFiles areaSize (filesPart s)) ∙ length-replicate {A = ℕ} areaSize 0
+area-length form s = laid-length (zeros areaSize) 0 (bytesIn form mostFiles areaSize (filesPart form s)) ∙ length-replicate {A = ℕ} areaSize 0
 
 -- what a served reading says
-pub read-by : (P : Got → Type 0) (s lent : List ℕ) → (accepted s ≡ true → P (got 0 (cardIn s) (areaIn s))) → fromText s lent .answer .outcome ≡ 0 → P (fromText s lent)
+pub read-by : (P : Got → Type 0) (form : Form) (s lent : List ℕ) → (accepted form s ≡ true → P (got 0 (cardIn form s) (areaIn form s))) → fromText form s lent .answer .outcome ≡ 0
+    → P (fromText form s lent)
 unfolding fromText
-read-by P s lent h =
+read-by P form s lent h =
     split (λ (x : Got). x .answer .outcome ≡ 0 → P x) (eqb (length lent) areaSize)
-    (λ e. split (λ (x : Got). x .answer .outcome ≡ 0 → P x) (accepted s) (λ a z. h a) (λ a z. absurd (omega arith)))
+    (λ e. split (λ (x : Got). x .answer .outcome ≡ 0 → P x) (accepted form s) (λ a z. h a) (λ a z. absurd (omega arith)))
     (λ e z. absurd (omega arith))
 
-writes : (c : Card) (area out s : List ℕ) → sound c area ≡ true → length area ≡ areaSize → text c area ≡ s → length s ≤ length out → toText c area out ≡ wrote (answer 0 c (length s)) (over s out)
+pub writes : (form : Form) (c : Card) (area out s : List ℕ) → sound c area ≡ true → ofForm form c ≡ true → length area ≡ areaSize → text form c area ≡ s → length s ≤ length out
+    → toText form c area out ≡ wrote (answer 0 c (length s)) (over s out)
 unfolding toText
-writes c area out s h a e l = rw (eq-eqb _ _ a, h, e, le-leb _ _ l)
+writes form c area out s h o a e l = rw (eq-eqb _ _ a, h, o, e, le-leb _ _ l)
 
-pub read-written : ReadWritten
-read-written s lent out z l =
-    read-by (λ (x : Got). toText (x .answer .card) (x .area) out ≡ wrote (answer 0 (x .answer .card) (length s)) (over s out)) s lent
-    (λ a. let k = read-text s a in writes (cardIn s) (areaIn s) out s (k .0) (area-length s) (k .1) l) z
+pub read-written : (form : Form) → ReadWritten form
+read-written form s lent out z l =
+    read-by (λ (x : Got). toText form (x .answer .card) (x .area) out ≡ wrote (answer 0 (x .answer .card) (length s)) (over s out)) form s lent
+    (λ a. let k = read-text form s a in writes form (cardIn form s) (areaIn form s) out s (k .0) (read-form form s) (area-length form s) (k .1) l) z

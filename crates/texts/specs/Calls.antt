@@ -1,4 +1,4 @@
--- The writer and the reader. Demand 3 does not count them.
+-- The writer and the reader, of each form: the calls write and read the new one. Demand 3 does not count them.
 use Prim.Native.Nat.{ℕ, _-_}
 use mathlib.Core.Bool.{Bool, cond, _&&_}
 use mathlib.Core.List.{List, _++_}
@@ -14,7 +14,7 @@ use Rattle.rules.specs.Calls.{answer}
 use Rattle.rules.specs.Words.{same}
 use Rattle.rules.specs.State.{blankCard}
 use Rattle.rules.specs.Sound.{sound}
-use Rattle.texts.specs.Text.{text}
+use Rattle.texts.specs.Text.{Form, text, ofForm}
 use Rattle.texts.specs.Reading.{cardIn, areaIn}
 
 -- the answer, with how many bytes of the text buffer are the text, and the buffer afterwards
@@ -25,13 +25,15 @@ pub record Wrote : Type 0 where
 abbrev pub wrote : Answer → List ℕ → Wrote
 wrote a out = record { answer = a; out = out }
 
--- refusals, in order: 2, 4, 10 text buffer too short, with nothing written
-unfoldable pub toText : Card → List ℕ → List ℕ → Wrote
-toText c area out =
+-- refusals, in order: 2, 4, 13 a directory present (the old form only), 10 text buffer too short, with nothing written
+unfoldable pub toText : Form → Card → List ℕ → List ℕ → Wrote
+toText form c area out =
     cond (eqb (length area) areaSize)
     (cond (sound c area)
-    (cond (leb (length (text c area)) (length out)) (wrote (answer 0 c (length (text c area))) (over (text c area) out))
+    (cond (ofForm form c)
+    (cond (leb (length (text form c area)) (length out)) (wrote (answer 0 c (length (text form c area))) (over (text form c area) out))
     (wrote (answer 10 c 0) out))
+    (wrote (answer 13 c 0) out))
     (wrote (answer 4 c 0) out))
     (wrote (answer 2 c 0) out)
 
@@ -44,14 +46,14 @@ abbrev pub got : ℕ → Card → List ℕ → Got
 got outcome c area = record { answer = answer outcome c 0; area = area }
 
 -- the lines of a sound card: what is read is sound, and its text is this text
-unfoldable pub accepted : List ℕ → Bool
-accepted s = sound (cardIn s) (areaIn s) && same s (text (cardIn s) (areaIn s))
+unfoldable pub accepted : Form → List ℕ → Bool
+accepted form s = sound (cardIn form s) (areaIn form s) && same s (text form (cardIn form s) (areaIn form s))
 
 -- refusals, in order: 2, 11 not the lines of a sound card, with a blank state and the area as it was
-unfoldable pub fromText : List ℕ → List ℕ → Got
-fromText s area =
+unfoldable pub fromText : Form → List ℕ → List ℕ → Got
+fromText form s area =
     cond (eqb (length area) areaSize)
-    (cond (accepted s) (got 0 (cardIn s) (areaIn s))
+    (cond (accepted form s) (got 0 (cardIn form s) (areaIn form s))
     (got 11 blankCard area))
     (got 2 blankCard area)
 

@@ -3,8 +3,9 @@ ghost use mathlib.Core.Path.{_≡_};
 ghost use mathlib.Core.Bool.{true};
 ghost use Rattle.rules.specs.Sound.{sound};
 ghost use Rattle.rules.specs.Words.{same};
-ghost use Rattle.texts.specs.Text.{text};
+ghost use Rattle.texts.specs.Text.{new, text};
 ghost use Rattle.texts.specs.Calls.{toText, Writes, fromText, Reads};
+use crate::NEW;
 use crate::TEXT_SIZE;
 use crate::load::card_in;
 use crate::text::put_card;
@@ -21,16 +22,16 @@ use rules::Card;
 // The text is this one, of a sound card.
 fn is_text(card: Card, area: &[u8], s: &[u8]) -> bool
     requires { ⌜ sound card (now area) ≡ true ⌝ }
-    ensures { λ r. ⌜ r ≡ same (now (s .entry)) (text card (now (area .entry))) ⌝ }
+    ensures { λ r. ⌜ r ≡ same (now (s .entry)) (text new card (now (area .entry))) ⌝ }
 {
     let mut page = [0u8; TEXT_SIZE];
-    let n = put_card(&mut page, card, area);
+    let n = put_card(NEW, &mut page, card, area);
     same(s, &page[..n])
 }
 
-// Refusals, in order: 2, 4, 10, with nothing written.
+// The writer. Refusals, in order: 2, 4, 10, with nothing written.
 pub fn to_text(card: Card, area: &[u8], out: &mut [u8]) -> Answer
-    ensures { λ r. ⌜ Writes (toText card (now (area .entry)) (now (out .entry))) r (now (out .exit)) ⌝ }
+    ensures { λ r. ⌜ Writes (toText new card (now (area .entry)) (now (out .entry))) r (now (out .exit)) ⌝ }
 {
     if area.len() != AREA_SIZE {
         return answer(2, card, 0);
@@ -39,22 +40,22 @@ pub fn to_text(card: Card, area: &[u8], out: &mut [u8]) -> Answer
         return answer(4, card, 0);
     }
     let mut page = [0u8; TEXT_SIZE];
-    let n = put_card(&mut page, card, area);
+    let n = put_card(NEW, &mut page, card, area);
     if !show(&page, 0, n, out) {
         return answer(10, card, 0);
     }
     answer(0, card, n)
 }
 
-// Refusals, in order: 2, 11, with a blank state and the area as it was.
+// The reader. Refusals, in order: 2, 11, with a blank state and the area as it was.
 pub fn from_text(area: &mut [u8], s: &[u8]) -> Answer
-    ensures { λ r. ⌜ Reads (fromText (now (s .entry)) (now (area .entry))) r (now (area .exit)) ⌝ }
+    ensures { λ r. ⌜ Reads (fromText new (now (s .entry)) (now (area .entry))) r (now (area .exit)) ⌝ }
 {
     if area.len() != AREA_SIZE {
         return answer(2, blank(), 0);
     }
     let mut image = [0u8; AREA_SIZE];
-    let card = card_in(s, &mut image);
+    let card = card_in(NEW, s, &mut image);
     if !is_sound(card, &image) {
         return answer(11, blank(), 0);
     }

@@ -5,4 +5,7 @@ mod text; // text.rt: the lines of a card
 pub mod calls; // calls.rt: the writer and the reader
 
 // The longest text that a sound card has.
-pub const TEXT_SIZE: usize = 9401;
+pub const TEXT_SIZE: usize = 9518;
+
+// The form of a text: with directories, where the old one has none.
+const NEW: bool = true;

@@ -3,10 +3,13 @@ ghost use mathlib.Core.Path.{_≡_};
 ghost use mathlib.Core.List.{[], _∷_};
 ghost use Prim.Native.Nat.{_+_, _≤_};
 ghost use lib.Dec.{leb};
-ghost use lib.ListN.{length, drop};
+ghost use lib.ListN.{length, drop, replicate};
 ghost use Rattle.files.specs.Words.{every};
+ghost use Rattle.files.specs.State.{blankFile};
 ghost use Rattle.files.specs.Create.{areaSize};
-ghost use Rattle.texts.specs.Reading.{hexIn, triesIn, credentialIn, currentIn, rightsIn, sessionIn, responseIn, counted, fileIn, lengthFor, Loads, LoadsAll, LoadsCard};
+ghost use Rattle.texts.specs.Reading.{hexIn, triesIn, credentialIn, homeIn, pastHome, currentIn, rightsIn, sessionIn, responseIn, counted, fileIn, housedIn, contentsPart, folderNext, folderIn, foldersIn, mostFoldersOf, foldered, foldersPart, lengthFor, Reaches, Loads, LoadsAll, LoadsDirectory, LoadsCard};
+use crate::scan::byte_at;
+use crate::scan::ends;
 use crate::scan::fields;
 use crate::scan::from;
 use crate::scan::hex_in;
@@ -17,14 +20,20 @@ use crate::scan::small_in;
 use card::state::response_of;
 use files::Directory;
 use files::File;
+use files::Folder;
 use files::and_or::both;
 use files::find::find_fid;
+use files::find::find_folder;
 use files::numbers::fewer;
 use files::numbers::two;
+use files::numbers::wide;
 use files::sizes::VARIABLE;
 use files::sizes::size;
 use files::state::added;
+use files::state::added_folder;
+use files::state::in_folder;
 use files::state::new_file;
+use files::state::new_folder;
 use files::state::no_files;
 use files::state::with_newest;
 use files::state::with_used;
@@ -57,16 +66,36 @@ fn credential_in(s: &[u8]) -> Credential
     }
 }
 
-// The file of a FID; none where there is no FID.
-fn current_in(d: Directory, s: &[u8]) -> u8
-    ensures { λ r. ⌜ r ≡ currentIn d (hexIn 2 (now (s .entry))) ⌝ }
+// The directory of a FID, 0 for the root.
+fn home_in(d: Directory, s: &[u8]) -> u8
+    ensures { λ r. ⌜ r ≡ homeIn d (now (s .entry)) ⌝ }
+{
+    let mut fid = [0u8; 2];
+    hex_in(s, &mut fid);
+    find_folder(d, two(fid[0], fid[1]) as u16)
+}
+
+// Behind the directory's FID, which only the new form has.
+fn past_home(form: bool, s: &[u8], at: usize) -> usize
+    requires { ⌜ at ≤ length (now s) ⌝ }
+    ensures { λ r. ⌜ Reaches (now (s .entry)) (pastHome form (drop at (now (s .entry)))) r ⌝ }
+{
+    if form {
+        return skips(s, at, 1);
+    }
+    at
+}
+
+// The file of a FID in a directory; none where there is no FID.
+fn current_in(d: Directory, home: u8, s: &[u8]) -> u8
+    ensures { λ r. ⌜ r ≡ currentIn d home (hexIn 2 (now (s .entry))) ⌝ }
 {
     let mut fid = [0u8; 2];
     let n = hex_in(s, &mut fid);
     if n == 0 {
         return 0;
     }
-    find_fid(d, two(fid[0], fid[1]) as u16)
+    find_fid(d, home, two(fid[0], fid[1]) as u16)
 }
 
 fn rights_in(s: &[u8]) -> [u8; CREDENTIALS]
@@ -79,7 +108,8 @@ fn session_in(d: Directory, s: &[u8]) -> Session
     ensures { λ r. ⌜ r ≡ sessionIn d (now (s .entry)) ⌝ }
 {
     let rights = rights_in(s);
-    let current = current_in(d, fields(s, CREDENTIALS));
+    let home = home_in(d, fields(s, CREDENTIALS + 4));
+    let current = current_in(d, home, fields(s, CREDENTIALS));
     let mut challenge = [0u8; 16];
     let n = hex_in(fields(s, CREDENTIALS + 1), &mut challenge);
     Session {
@@ -87,6 +117,7 @@ fn session_in(d: Directory, s: &[u8]) -> Session
         current,
         challenge,
         len: n as u8,
+        folder: home,
     }
 }
 
@@ -110,6 +141,7 @@ fn counted(f: File, n: u16, newest: u8) -> File
     with_newest(f, (n % 256) as u8, newest)
 }
 
+// A file's line without its directory.
 fn file_in(s: &[u8]) -> File
     ensures { λ r. ⌜ r ≡ fileIn (now (s .entry)) ⌝ }
 {
@@ -121,6 +153,22 @@ fn file_in(s: &[u8]) -> File
     hex_in(fields(s, 1), &mut made);
     let f = new_file(fid[0], fid[1], made[0], made[1], made[2], made[3], made[4]);
     counted(f, n, newest)
+}
+
+// A file's line with its directory.
+fn housed_in(d: Directory, s: &[u8]) -> File
+    ensures { λ r. ⌜ r ≡ housedIn d (now (s .entry)) ⌝ }
+{
+    let home = home_in(d, fields(s, 4));
+    in_folder(home, file_in(s))
+}
+
+// Behind the line of the file that starts at an index.
+fn contents_at(form: bool, s: &[u8], at: usize) -> usize
+    requires { ⌜ at ≤ length (now s) ⌝ }
+    ensures { λ r. ⌜ Reaches (now (s .entry)) (contentsPart form (drop at (now (s .entry)))) r ⌝ }
+{
+    past_home(form, s, skips(s, at, 4))
 }
 
 // n bytes of contents into a buffer; the index behind them.
@@ -155,18 +203,64 @@ fn goes_on(left: usize, n: usize, room: usize, behind: usize) -> bool
     both(1 <= left, both(n <= room, length_for(n) <= behind))
 }
 
-// The files, as far as the text goes on with them, and their bytes.
-fn files_in(s: &[u8], image: &mut [u8]) -> Directory
-    ensures { λ r. ⌜ LoadsAll (now (s .entry)) (now (image .entry)) r (now (image .exit)) ⌝ }
+// A directory's line comes next: its second field has two digits.
+fn folder_next(s: &[u8]) -> bool
+    ensures { λ r. ⌜ r ≡ folderNext (now (s .entry)) ⌝ }
 {
+    ends(byte_at(fields(s, 1), 2))
+}
+
+fn folder_in(s: &[u8]) -> Folder
+    ensures { λ r. ⌜ r ≡ folderIn (now (s .entry)) ⌝ }
+{
+    let mut fid = [0u8; 2];
+    hex_in(s, &mut fid);
+    let mut right = [0u8; 1];
+    hex_in(fields(s, 1), &mut right);
+    new_folder(fid[0], fid[1], right[0])
+}
+
+// So many directories are read at most: the old form has none.
+fn most_folders(form: bool) -> usize
+    ensures { λ r. ⌜ (r ≡ mostFoldersOf form) × (r ≤ 4) ⌝ }
+{
+    if form { 4 } else { 0 }
+}
+
+// The directories, as far as the text goes on with them.
+fn folders_in(form: bool, s: &[u8]) -> Directory
+    ensures { λ r. ⌜ r ≡ foldered (foldersIn (mostFoldersOf form) (now (s .entry))) ⌝ }
+{
+    let most = most_folders(form);
     let mut d = no_files();
+    let mut at: usize = 0;
+    let mut i: usize = 0;
+    while i < most {
+        let rest = from(s, at);
+        if !folder_next(rest) {
+            return d;
+        }
+        let next = added_folder(d, folder_in(rest));
+        d = next;
+        at = skips(s, at, 2);
+        i += 1;
+    }
+    d
+}
+
+// The files, as far as the text goes on with them, and their bytes.
+fn files_in(form: bool, given: Directory, s: &[u8], image: &mut [u8]) -> Directory
+    requires { ⌜ (given .files ≡ replicate 16 blankFile) × (given .count ≡ 0) ⌝ }
+    ensures { λ r. ⌜ LoadsAll form given (now (s .entry)) (now (image .entry)) r (now (image .exit)) ⌝ }
+{
+    let mut d = given;
     let mut at: usize = 0;
     let mut to: usize = 0;
     let mut i: usize = 0;
     while i < 16 {
-        let f = file_in(from(s, at));
+        let f = housed_in(given, from(s, at));
         let n = size(f);
-        let start = skips(s, at, 4);
+        let start = contents_at(form, s, at);
         if !goes_on(s.len() - at, n, image.len() - to, s.len() - start) {
             return d;
         }
@@ -179,16 +273,36 @@ fn files_in(s: &[u8], image: &mut [u8]) -> Directory
     d
 }
 
-pub(crate) fn card_in(s: &[u8], image: &mut [u8]) -> Card
+// Behind the session's line.
+fn lines_in(form: bool, s: &[u8]) -> &[u8]
+    ensures { λ r. ⌜ now r ≡ foldersPart form (now (s .entry)) ⌝ }
+{
+    let rest = fields(s, 3 * CREDENTIALS);
+    let at = skips(rest, 0, CREDENTIALS + 4);
+    from(rest, past_home(form, rest, at))
+}
+
+// Directories and files.
+fn directory_in(form: bool, s: &[u8], image: &mut [u8]) -> Directory
     requires { ⌜ length (now image) ≡ areaSize ⌝ }
-    ensures { λ r. ⌜ LoadsCard (now (s .entry)) (now (image .entry)) r (now (image .exit)) ⌝ }
+    ensures { λ r. ⌜ LoadsDirectory form (now (s .entry)) (now (image .entry)) r (now (image .exit)) ⌝ }
+{
+    let lines = lines_in(form, s);
+    let given = folders_in(form, lines);
+    let n = wide(given.number);
+    files_in(form, given, fields(lines, n + n), image)
+}
+
+pub(crate) fn card_in(form: bool, s: &[u8], image: &mut [u8]) -> Card
+    requires { ⌜ length (now image) ≡ areaSize ⌝ }
+    ensures { λ r. ⌜ LoadsCard form (now (s .entry)) (now (image .entry)) r (now (image .exit)) ⌝ }
 {
     let device = credential_in(s);
     let admin = credential_in(fields(s, 3));
     let user = credential_in(fields(s, 6));
     let credentials = [device, admin, user];
     let rest = fields(s, 3 * CREDENTIALS);
-    let directory = files_in(fields(rest, CREDENTIALS + 4), image);
+    let directory = directory_in(form, s, image);
     let session = session_in(directory, rest);
     let response = response_in(rest);
     Card {

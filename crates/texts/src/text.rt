@@ -6,9 +6,9 @@ ghost use lib.ListN.{length, take, getD};
 ghost use Prim.Native.Nat.{_+_, _<_, min};
 ghost use Rattle.digits.specs.Digits.{tab, newline, ended, decimal, hexOf, orDash};
 ghost use Rattle.files.specs.Words.{isZero, Bounded};
-ghost use Rattle.files.specs.Directory.{used, fileAt};
+ghost use Rattle.files.specs.Directory.{used, fileAt, folderAt};
 ghost use Rattle.rules.specs.State.{howMany, waitCount};
-ghost use Rattle.texts.specs.Text.{line, credentialLine, credentialLines, sessionLine, heldOrUsed, fileLine, contents, filesText, text};
+ghost use Rattle.texts.specs.Text.{homeFid, parting, tail, credentialLine, credentialLines, sessionLine, folderLine, folderLines, folderCount, heldOrUsed, fileLine, contents, filesText, text};
 ghost use Rattle.digits.specs.Page.{Draws};
 use digits::NEWLINE;
 use digits::TAB;
@@ -18,10 +18,12 @@ use digits::page::put;
 use digits::page::put_hex;
 use files::Directory;
 use files::File;
+use files::Folder;
 use files::numbers::fewer;
 use files::numbers::two;
 use files::numbers::wide;
 use files::places::file;
+use files::places::folder;
 use files::places::used;
 use files::record::bytes_used;
 use files::sizes::VARIABLE;
@@ -52,6 +54,35 @@ fn put_credential(out: &mut [u8], at: usize, x: Credential) -> usize
     number_field(out, b, x.tries.left as u32, NEWLINE)
 }
 
+// The byte behind the field before the directory's FID, which only the new form has.
+fn separator(form: bool) -> u8
+    ensures { λ r. ⌜ r ≡ parting form ⌝ }
+{
+    if form { TAB } else { NEWLINE }
+}
+
+// A directory's FID, 3F00 for the root.
+fn home_fid(d: Directory, place: u8) -> [u8; 2]
+    ensures { λ r. ⌜ r ≡ homeFid d place ⌝ }
+{
+    if place == 0 {
+        return [0x3F, 0x00];
+    }
+    let x = folder(d, place);
+    [x.fid1, x.fid2]
+}
+
+// What stands behind the separator.
+fn put_home(form: bool, out: &mut [u8], at: usize, d: Directory, place: u8) -> usize
+    ensures { λ r. ⌜ Draws (tail form d place) (now (out .entry)) at r (now (out .exit)) ⌝ }
+{
+    if !form {
+        return at;
+    }
+    let fid = home_fid(d, place);
+    hex_field(out, at, &fid, NEWLINE)
+}
+
 // Two bytes of FID, none for no file.
 fn fid_length(place: u8) -> usize
     ensures { λ r. ⌜ Bounded 2 (cond (isZero place) 0 2) r ⌝ }
@@ -76,17 +107,17 @@ fn put_challenge(out: &mut [u8], at: usize, s: Session) -> usize
 }
 
 // Mode, and the bytes that wait.
-fn put_response(out: &mut [u8], at: usize, x: Response) -> usize
-    ensures { λ r. ⌜ Draws (line (decimal (x .mode) ∷ orDash (take (waitCount x) (x .bytes)) ∷ [])) (now (out .entry)) at r (now (out .exit)) ⌝ }
+fn put_response(out: &mut [u8], at: usize, x: Response, end: u8) -> usize
+    ensures { λ r. ⌜ Draws (ended tab (decimal (x .mode)) ++ ended end (orDash (take (waitCount x) (x .bytes)))) (now (out .entry)) at r (now (out .exit)) ⌝ }
 {
     let bytes = x.bytes;
     let n = two(x.count1, x.count2);
     let a = number_field(out, at, x.mode as u32, TAB);
-    front_field(out, a, &bytes, n, NEWLINE)
+    front_field(out, a, &bytes, n, end)
 }
 
-fn put_session(out: &mut [u8], at: usize, card: Card) -> usize
-    ensures { λ r. ⌜ Draws (sessionLine card) (now (out .entry)) at r (now (out .exit)) ⌝ }
+fn put_session(form: bool, out: &mut [u8], at: usize, card: Card) -> usize
+    ensures { λ r. ⌜ Draws (sessionLine form card) (now (out .entry)) at r (now (out .exit)) ⌝ }
 {
     let session = card.session;
     let f = file(card.directory, session.current);
@@ -97,7 +128,41 @@ fn put_session(out: &mut [u8], at: usize, card: Card) -> usize
     let c = put_right(out, b, session, USER);
     let d = front_field(out, c, &fid, n, TAB);
     let e = put_challenge(out, d, session);
-    put_response(out, e, card.response)
+    let g = put_response(out, e, card.response, separator(form));
+    put_home(form, out, g, card.directory, session.folder)
+}
+
+// A directory: FID, creation right.
+fn put_folder(out: &mut [u8], at: usize, x: Folder) -> usize
+    ensures { λ r. ⌜ Draws (folderLine x) (now (out .entry)) at r (now (out .exit)) ⌝ }
+{
+    let fid = [x.fid1, x.fid2];
+    let right = [x.right];
+    let a = hex_field(out, at, &fid, TAB);
+    hex_field(out, a, &right, NEWLINE)
+}
+
+fn folder_at(d: Directory, i: usize) -> Folder
+    requires { ⌜ i < 4 ⌝ }
+    ensures { λ r. ⌜ (r ≡ folderAt (d .folders) i) × (length (d .folders) ≡ 4) ⌝ }
+{
+    let x = d.folders[i];
+    x
+}
+
+// Each directory, as made.
+fn put_folders(out: &mut [u8], at: usize, d: Directory) -> usize
+    ensures { λ r. ⌜ Draws (folderLines (take (folderCount d) (d .folders))) (now (out .entry)) at r (now (out .exit)) ⌝ }
+{
+    let n = fewer(wide(d.number), 4);
+    let mut q = at;
+    let mut i: usize = 0;
+    while i < n {
+        let x = folder_at(d, i);
+        q = put_folder(out, q, x);
+        i += 1;
+    }
+    q
 }
 
 // Records held; of type 2C the bytes used.
@@ -110,16 +175,17 @@ fn held_or_used(f: File) -> u32
     f.held as u32
 }
 
-// FID, CREATE's five bytes, records held, newest place.
-fn put_file(out: &mut [u8], at: usize, f: File) -> usize
-    ensures { λ r. ⌜ Draws (fileLine f) (now (out .entry)) at r (now (out .exit)) ⌝ }
+// FID, CREATE's five bytes, records held, newest place, its directory.
+fn put_file(form: bool, out: &mut [u8], at: usize, d: Directory, f: File) -> usize
+    ensures { λ r. ⌜ Draws (fileLine form d f) (now (out .entry)) at r (now (out .exit)) ⌝ }
 {
     let fid = [f.fid1, f.fid2];
     let made = [f.kind, f.size1, f.size2, f.read, f.write];
     let a = hex_field(out, at, &fid, TAB);
     let b = hex_field(out, a, &made, TAB);
     let c = number_field(out, b, held_or_used(f), TAB);
-    number_field(out, c, f.newest as u32, NEWLINE)
+    let e = number_field(out, c, f.newest as u32, separator(form));
+    put_home(form, out, e, d, f.folder)
 }
 
 // A line of contents.
@@ -157,10 +223,10 @@ fn put_contents(out: &mut [u8], at: usize, bytes: &[u8]) -> usize
 }
 
 // A file's line and its contents.
-fn put_whole(out: &mut [u8], at: usize, f: File, bytes: &[u8]) -> usize
-    ensures { λ r. ⌜ Draws (fileLine f ++ contents (now (bytes .entry))) (now (out .entry)) at r (now (out .exit)) ⌝ }
+fn put_whole(form: bool, out: &mut [u8], at: usize, d: Directory, f: File, bytes: &[u8]) -> usize
+    ensures { λ r. ⌜ Draws (fileLine form d f ++ contents (now (bytes .entry))) (now (out .entry)) at r (now (out .exit)) ⌝ }
 {
-    let q = put_file(out, at, f);
+    let q = put_file(form, out, at, d, f);
     put_contents(out, q, bytes)
 }
 
@@ -172,8 +238,8 @@ fn file_at(d: Directory, i: usize) -> File
     f
 }
 
-fn put_files(out: &mut [u8], at: usize, d: Directory, area: &[u8]) -> usize
-    ensures { λ r. ⌜ Draws (filesText (take (used d) (d .files)) (now (area .entry))) (now (out .entry)) at r (now (out .exit)) ⌝ }
+fn put_files(form: bool, out: &mut [u8], at: usize, d: Directory, area: &[u8]) -> usize
+    ensures { λ r. ⌜ Draws (filesText form d (take (used d) (d .files)) (now (area .entry))) (now (out .entry)) at r (now (out .exit)) ⌝ }
 {
     let n = used(d);
     let mut q = at;
@@ -182,7 +248,7 @@ fn put_files(out: &mut [u8], at: usize, d: Directory, area: &[u8]) -> usize
     while i < n {
         let f = file_at(d, i);
         let end = ahead(from, size(f), area.len());
-        q = put_whole(out, q, f, &area[from..end]);
+        q = put_whole(form, out, q, d, f, &area[from..end]);
         from = end;
         i += 1;
     }
@@ -201,11 +267,12 @@ fn put_credentials(out: &mut [u8], at: usize, card: Card) -> usize
 }
 
 // The whole text.
-pub(crate) fn put_card(out: &mut [u8], card: Card, area: &[u8]) -> usize
-    ensures { λ r. ⌜ Draws (text card (now (area .entry))) (now (out .entry)) 0 r (now (out .exit)) ⌝ }
+pub(crate) fn put_card(form: bool, out: &mut [u8], card: Card, area: &[u8]) -> usize
+    ensures { λ r. ⌜ Draws (text form card (now (area .entry))) (now (out .entry)) 0 r (now (out .exit)) ⌝ }
 {
     let directory = card.directory;
     let a = put_credentials(out, 0, card);
-    let b = put_session(out, a, card);
-    put_files(out, b, directory, area)
+    let b = put_session(form, out, a, card);
+    let c = put_folders(out, b, directory);
+    put_files(form, out, c, directory, area)
 }

@@ -1,6 +1,8 @@
 -- `texts::text::put_response` meets its contract. Assumes nothing.
 use Rattle.digits.specs.Digits.{orDash}
-use Rattle.texts.proofs.Drawing.{line-more, line-last, field-as}
+use Rattle.digits.proofs.Drawn.{draws-then}
+use Rattle.texts.proofs.Drawing.{field-as}
+use native.Mathlib.Omega.{arith}
 use borrow.Author.Needs.{needs}
 use Rattle.texts.proofs.text.put_response.Statement.{statement}
 use Rattle.texts.proofs.text.put_response.Tie as tie
@@ -21,10 +23,10 @@ front-field-requires : tie.Need-front-field-requires
 front-field-requires c κs = tt
 
 same-length : tie.Need-same-length
-same-length c = search needs
+same-length c = omega (arith, c .before .before .before .before .before .before .out .given, c .before .out2 .given)
 
 returns : tie.Need-returns
-returns c = line-more _ _ _ _ _ _ (c .before .before .before .before .before .before .before .number-field .ensures) (line-last _ _ _ (field-as orDash _ _ _ _ _ (c .before .before .front-field .ensures) (rw (c .before .before .before .before .before .before .before .before .before .before .two .ensures .is))))
+returns c = draws-then _ _ _ _ _ (c .before .before .before .before .before .before .before .number-field .ensures) (field-as orDash _ _ _ _ _ (c .before .before .front-field .ensures) (rw (c .before .before .before .before .before .before .before .before .before .before .two .ensures .is)))
 
 pub put-response-spec : {M : Type 1} → statement M
 put-response-spec =
