@@ -10,6 +10,9 @@ enum { LINE_BYTES = 32, FID_BYTES = 2, CREATE_BYTES = 5 };
 /* FID, tab, right and newline; and what the session's line and a file's end with: a tab and a folder's FID. */
 enum { FOLDER_LENGTH = 2 * FID_BYTES + 1 + 2 + 1, HOME_LENGTH = 1 + 2 * FID_BYTES };
 
+/* The new form, and the old one, which has no folders and no field that names one. */
+enum form { OLD, NEW };
+
 /* What a file's line counts: the bytes used of type 2C, the records held of the others. */
 static unsigned counted(const struct file *f)
 {
@@ -40,29 +43,34 @@ static size_t optional_length(size_t bytes)
     return bytes > 0 ? 2 * bytes : 1;
 }
 
-static size_t session_length(const struct session *s, const struct response *r)
+static size_t home_length(enum form form)
 {
-    return 2 * CREDENTIALS + optional_length(s->current != 0 ? FID_BYTES : 0) + 1 + optional_length(s->length) + 1
-        + 2 + optional_length(waiting_count(r)) + HOME_LENGTH + 1;
+    return form == NEW ? HOME_LENGTH : 0;
 }
 
-static size_t file_length(const struct file *f)
+static size_t session_length(const struct session *s, const struct response *r, enum form form)
+{
+    return 2 * CREDENTIALS + optional_length(s->current != 0 ? FID_BYTES : 0) + 1 + optional_length(s->length) + 1
+        + 2 + optional_length(waiting_count(r)) + home_length(form) + 1;
+}
+
+static size_t file_length(const struct file *f, enum form form)
 {
     size_t size = file_size(f);
 
-    return 2 * FID_BYTES + 1 + 2 * CREATE_BYTES + 1 + decimal_length(counted(f)) + 1 + decimal_length(f->newest) + HOME_LENGTH + 1
+    return 2 * FID_BYTES + 1 + 2 * CREATE_BYTES + 1 + decimal_length(counted(f)) + 1 + decimal_length(f->newest) + home_length(form) + 1
         + 2 * size + (size + LINE_BYTES - 1) / LINE_BYTES;
 }
 
 /* Counted first, since nothing may be written where the text does not fit. */
-static size_t card_length(const struct layout *c)
+static size_t card_length(const struct layout *c, enum form form)
 {
-    size_t length = session_length(&c->session, &c->response) + FOLDER_LENGTH * (size_t)c->directory.number;
+    size_t length = session_length(&c->session, &c->response, form) + FOLDER_LENGTH * (size_t)c->directory.number;
 
     for (size_t i = 0; i < CREDENTIALS; i++)
         length += credential_length(&c->credentials[i]);
     for (size_t i = 0; i < c->directory.count; i++)
-        length += file_length(&c->directory.files[i]);
+        length += file_length(&c->directory.files[i], form);
     return length;
 }
 
@@ -111,15 +119,15 @@ static uint8_t *put_credential(uint8_t *to, const struct credential *x)
 }
 
 /* A tab and the FID of a folder, by its place plus one; 3F00 for the root. */
-static uint8_t *put_home(uint8_t *to, const struct directory *d, uint8_t folder)
+static uint8_t *put_home(uint8_t *to, const struct directory *d, uint8_t folder, enum form form)
 {
     const struct folder root = { 0x3F, 0x00, 0 }, *f = folder > 0 ? &d->folders[folder - 1] : &root;
     const uint8_t fid[FID_BYTES] = { f->fid1, f->fid2 };
 
-    return put_hex(put(to, '\t'), fid, sizeof fid);
+    return form == NEW ? put_hex(put(to, '\t'), fid, sizeof fid) : to;
 }
 
-static uint8_t *put_session(uint8_t *to, const struct layout *c)
+static uint8_t *put_session(uint8_t *to, const struct layout *c, enum form form)
 {
     const struct session *s = &c->session;
     const struct response *r = &c->response;
@@ -141,7 +149,7 @@ static uint8_t *put_session(uint8_t *to, const struct layout *c)
     to = put(to, r->mode != 0 ? '1' : '0');
     to = put(to, '\t');
     to = put_optional(to, r->bytes, waiting_count(r));
-    to = put_home(to, &c->directory, s->folder);
+    to = put_home(to, &c->directory, s->folder, form);
     return put(to, '\n');
 }
 
@@ -155,7 +163,7 @@ static uint8_t *put_folder(uint8_t *to, const struct folder *f)
     return put(to, '\n');
 }
 
-static uint8_t *put_file(uint8_t *to, const struct directory *d, const struct file *f, const uint8_t *extent)
+static uint8_t *put_file(uint8_t *to, const struct directory *d, const struct file *f, const uint8_t *extent, enum form form)
 {
     const uint8_t fid[FID_BYTES] = { f->fid1, f->fid2 };
     const uint8_t created[CREATE_BYTES] = { f->type, f->size1, f->size2, f->read, f->write };
@@ -168,7 +176,7 @@ static uint8_t *put_file(uint8_t *to, const struct directory *d, const struct fi
     to = put_decimal(to, counted(f));
     to = put(to, '\t');
     to = put_decimal(to, f->newest);
-    to = put_home(to, d, f->folder);
+    to = put_home(to, d, f->folder, form);
     to = put(to, '\n');
     for (size_t at = 0; at < size; at += LINE_BYTES) {
         size_t left = size - at;
@@ -178,18 +186,30 @@ static uint8_t *put_file(uint8_t *to, const struct directory *d, const struct fi
     return to;
 }
 
-static void put_card(uint8_t *to, const struct layout *c, const uint8_t *area)
+static void put_card(uint8_t *to, const struct layout *c, const uint8_t *area, enum form form)
 {
     for (size_t i = 0; i < CREDENTIALS; i++)
         to = put_credential(to, &c->credentials[i]);
-    to = put_session(to, c);
+    to = put_session(to, c, form);
     for (size_t i = 0; i < c->directory.number; i++)
         to = put_folder(to, &c->directory.folders[i]);
     for (size_t i = 0; i < c->directory.count; i++) {
         const struct file *f = &c->directory.files[i];
-        to = put_file(to, &c->directory, f, area);
+        to = put_file(to, &c->directory, f, area, form);
         area += file_size(f);
     }
+}
+
+/* The text of a sound card. In the old form it has no folder. */
+static uint8_t write_card(const struct layout *c, const uint8_t *area, enum form form, uint8_t *text, size_t text_len, size_t *text_count)
+{
+    size_t length = card_length(c, form);
+
+    if (length > text_len)
+        return LIMPET_SHORT_TEXT;
+    put_card(text, c, area, form);
+    *text_count = length;
+    return LIMPET_OK;
 }
 
 uint8_t plain_to_text(const struct limpet_card *card, const uint8_t *area, size_t area_len,
@@ -203,20 +223,16 @@ uint8_t plain_to_text(const struct limpet_card *card, const uint8_t *area, size_
     memcpy(&c, card, sizeof c);
     if (!is_sound((const uint8_t *)&c, area))
         return LIMPET_UNSOUND;
-    size_t length = card_length(&c);
-    if (length > text_len)
-        return LIMPET_SHORT_TEXT;
-    put_card(text, &c, area);
-    *text_count = length;
-    return LIMPET_OK;
+    return write_card(&c, area, NEW, text, text_len, text_count);
 }
 
 /* ------------------------------------------------------------ the reader */
 
-/* The text, and how many bytes of it were taken. */
+/* The text, how many bytes of it were taken, and the form that it is to have. */
 struct input {
     const uint8_t *text;
     size_t length, at;
+    enum form form;
 };
 
 /* The byte to be taken next, or 0 at the end: no line has a byte 0. */
@@ -314,6 +330,14 @@ struct current {
     uint8_t fid[FID_BYTES], home[FID_BYTES];
 };
 
+/* A tab and the FID of a folder, at the end of a line. In the old form nothing stands there, and it is the root's. */
+static bool take_home(struct input *in, uint8_t *fid)
+{
+    fid[0] = 0x3F;
+    fid[1] = 0x00;
+    return in->form == OLD || (take(in, '\t') && take_hex(in, fid, FID_BYTES));
+}
+
 /* A right or the mode, with the tab behind it. */
 static bool take_bit(struct input *in, uint8_t *bit)
 {
@@ -343,7 +367,7 @@ static bool take_session(struct input *in, struct session *s, struct response *r
         || !take_optional(in, s->challenge, CHALLENGE_ROOM, &length) || !take(in, '\t'))
         return false;
     s->length = (uint8_t)length;
-    return take_response(in, r) && take(in, '\t') && take_hex(in, current->home, sizeof current->home) && take(in, '\n');
+    return take_response(in, r) && take_home(in, current->home) && take(in, '\n');
 }
 
 /* The place plus one of the folder with that FID; 0 for the root. */
@@ -361,7 +385,7 @@ static bool find_home(const struct directory *d, const uint8_t *fid, uint8_t *fo
 /* A folder's line is told from a file's by where it ends. */
 static bool is_folder_next(const struct input *in)
 {
-    return in->length - in->at >= FOLDER_LENGTH && in->text[in->at + FOLDER_LENGTH - 1] == '\n';
+    return in->form == NEW && in->length - in->at >= FOLDER_LENGTH && in->text[in->at + FOLDER_LENGTH - 1] == '\n';
 }
 
 static bool take_folders(struct input *in, struct directory *d)
@@ -398,8 +422,8 @@ static bool take_file_line(struct input *in, const struct directory *d, struct f
         return false;
     *f = (struct file){ .fid1 = fid[0], .fid2 = fid[1], .type = created[0], .size1 = created[1], .size2 = created[2],
                         .read = created[3], .write = created[4] };
-    return take_counted(in, f) && take(in, '\t') && take_small(in, &f->newest) && take(in, '\t')
-        && take_hex(in, home, sizeof home) && take(in, '\n') && find_home(d, home, &f->folder);
+    return take_counted(in, f) && take(in, '\t') && take_small(in, &f->newest) && take_home(in, home) && take(in, '\n')
+        && find_home(d, home, &f->folder);
 }
 
 static bool take_contents(struct input *in, uint8_t *extent, size_t size)
@@ -460,7 +484,7 @@ static bool take_card(struct input *in, struct layout *c, uint8_t *area)
 uint8_t plain_from_text(struct limpet_card *card, uint8_t *area, size_t area_len,
                         const uint8_t *text, size_t text_len)
 {
-    struct input in = { text, text_len, 0 };
+    struct input in = { text, text_len, 0, NEW };
     struct layout c = { 0 };
     uint8_t contents[LIMPET_AREA_SIZE] = { 0 };
 
@@ -472,4 +496,28 @@ uint8_t plain_from_text(struct limpet_card *card, uint8_t *area, size_t area_len
     memcpy((uint8_t *)card, &c, sizeof c);
     memcpy(area, contents, sizeof contents);
     return LIMPET_OK;
+}
+
+/* A text of one form made one of the other. Only the new one can have folders. */
+static uint8_t convert(struct input in, enum form to, uint8_t *text, size_t text_len, size_t *text_count)
+{
+    struct layout c = { 0 };
+    uint8_t contents[LIMPET_AREA_SIZE] = { 0 };
+
+    *text_count = 0;
+    if (!take_card(&in, &c, contents))
+        return LIMPET_BAD_TEXT;
+    if (to == OLD && c.directory.number > 0)
+        return LIMPET_DIRECTORY;
+    return write_card(&c, contents, to, text, text_len, text_count);
+}
+
+uint8_t plain_text_to_new(const uint8_t *old, size_t old_len, uint8_t *text, size_t text_len, size_t *text_count)
+{
+    return convert((struct input){ old, old_len, 0, OLD }, NEW, text, text_len, text_count);
+}
+
+uint8_t plain_text_to_old(const uint8_t *given, size_t given_len, uint8_t *text, size_t text_len, size_t *text_count)
+{
+    return convert((struct input){ given, given_len, 0, NEW }, OLD, text, text_len, text_count);
 }

@@ -1,7 +1,8 @@
 /*
  * How long it takes to write a card as lines and to read the lines again, by
  * the library's calls and by those of bench/plain_text.c, turn by turn on the
- * same cards.
+ * same cards. And how long it takes to convert the lines, beside a read and a
+ * write of the card, turn by turn too.
  */
 #include <stdbool.h>
 #include <stdio.h>
@@ -22,7 +23,9 @@ static const char usage[] =
     "Writes cards as lines and reads the lines, 50 times in each of ROUNDS rounds (1 to\n"
     "999), with the library and with plain C. First sees that the two agree. Prints a line\n"
     "for each card and for each of write and read: that word, the card, the bytes of its\n"
-    "text, and the seconds of a call in the fastest round, library and plain.\n"
+    "text, and the seconds of a call in the fastest round, library and plain. And a line\n"
+    "for each card and for each of to-new and to-old: that word, the card, the bytes of its\n"
+    "text in the new form, and the seconds of converting it, and of reading and writing it.\n"
     "--once: calls FUNCTION alone, once on each card, and prints a line for each call, for\n"
     "callgrind to count. It is limpet_to_text, limpet_from_text, plain_to_text or\n"
     "plain_from_text.\n";
@@ -46,6 +49,8 @@ struct kept {
     const char *name;
     uint8_t card[LIMPET_CARD_SIZE], area[LIMPET_AREA_SIZE], text[LIMPET_TEXT_SIZE];
     size_t length;
+    uint8_t old[LIMPET_TEXT_SIZE]; /* the text in the old form */
+    size_t old_length;
 };
 
 static void stop(const char *card, const char *why)
@@ -225,6 +230,37 @@ static void read_once(const struct kept *k, int way)
         stop(k->name, "a reader refuses the text");
 }
 
+/* For the conversions the other way is what the library takes to read and write the card. */
+enum { CONVERTED = LIBRARY, READ_AND_WRITTEN };
+
+static void read_and_write(const struct kept *k)
+{
+    read_once(k, LIBRARY);
+    write_once(k, LIBRARY);
+}
+
+static void to_new_once(const struct kept *k, int way)
+{
+    static uint8_t text[LIMPET_TEXT_SIZE];
+    size_t count;
+
+    if (way == READ_AND_WRITTEN)
+        read_and_write(k);
+    else if (limpet_text_to_new(k->old, k->old_length, text, sizeof text, &count) != LIMPET_OK)
+        stop(k->name, "the old text is refused");
+}
+
+static void to_old_once(const struct kept *k, int way)
+{
+    static uint8_t text[LIMPET_TEXT_SIZE];
+    size_t count;
+
+    if (way == READ_AND_WRITTEN)
+        read_and_write(k);
+    else if (limpet_text_to_old(k->text, k->length, text, sizeof text, &count) != LIMPET_OK)
+        stop(k->name, "the new text is refused");
+}
+
 typedef void call(const struct kept *, int way);
 
 static void measure(const char *what, const struct kept *k, call *once, int rounds)
@@ -261,9 +297,23 @@ static bool call_once(struct kept *cards, const char *function)
     return false;
 }
 
+/* The text in the old form, which has to come back as it was. */
+static void keep_old(struct kept *k)
+{
+    uint8_t text[LIMPET_TEXT_SIZE];
+    size_t count;
+
+    if (limpet_text_to_old(k->text, k->length, k->old, sizeof k->old, &k->old_length) != LIMPET_OK)
+        stop(k->name, "the text has no old form");
+    if (limpet_text_to_new(k->old, k->old_length, text, sizeof text, &count) != LIMPET_OK || count != k->length
+        || memcmp(text, k->text, count) != 0)
+        stop(k->name, "the old form does not lead back to the text");
+}
+
 static void compare(struct kept *k, int rounds)
 {
     keep_text(k);
+    keep_old(k);
     for (int way = 0; way < WAYS; way++) {
         check_writer(k, ways[way].write);
         check_reader(k, ways[way].read);
@@ -271,6 +321,8 @@ static void compare(struct kept *k, int rounds)
     }
     measure("write", k, write_once, rounds);
     measure("read", k, read_once, rounds);
+    measure("to-new", k, to_new_once, rounds);
+    measure("to-old", k, to_old_once, rounds);
 }
 
 int main(int count, char **arguments)

@@ -23,7 +23,7 @@
  * What is taken at most, measured and not proved (tests/footprint):
  *
  *                     code    constants   stack of a call      C functions needed
- *   liblimpetnook.a   72000   700         LIMPET_TEXT_STACK    memcpy, memset
+ *   liblimpetnook.a   73000   700         LIMPET_TEXT_STACK    memcpy, memset
  *   limpet_aes128     1335    0           LIMPET_AES128_STACK  none
  *
  * The second row is for a program that calls limpet_aes128 alone and is linked
@@ -48,16 +48,16 @@ extern "C" {
  *
  *   if (limpet_version() != LIMPET_VERSION) ... header and library do not match
  */
-#define LIMPET_VERSION 9
+#define LIMPET_VERSION 10
 
 uint32_t limpet_version(void);
 
 /*
  * The bytes of stack that are enough for a call: on a card, of its two calls
- * for a text, and of limpet_aes128.
+ * for a text and the two that convert one, and of limpet_aes128.
  */
 #define LIMPET_CARD_STACK 5632
-#define LIMPET_TEXT_STACK 17408
+#define LIMPET_TEXT_STACK 18432
 #define LIMPET_AES128_STACK 512
 
 /* Outcomes. The numbers are fixed: scripts print them too. */
@@ -70,6 +70,7 @@ uint32_t limpet_version(void);
 #define LIMPET_BAD_LENGTH 6  /* key, block or output is not 16 bytes long */
 #define LIMPET_SHORT_TEXT 10 /* the buffer is shorter than the card's text */
 #define LIMPET_BAD_TEXT 11   /* the text is not the lines of a card */
+#define LIMPET_DIRECTORY 13  /* the card has a directory, and the old form has none */
 
 /* Bytes of a key, of a block and of an output of limpet_aes128. */
 #define LIMPET_AES128_SIZE 16
@@ -287,11 +288,11 @@ uint8_t limpet_to_text(const struct limpet_card *card,
  * refusal the area is as it was and the card is blank, each byte of it 00: a
  * card that was there is gone. To keep an earlier card, read into another one.
  *
- * The card has the rights, the challenge and the waiting bytes of its text. Where
- * it was without power meanwhile, limpet_reset has to come next. A text that was
- * cut off between two files may not be refused: it can be that of a card without
- * the files that followed; and so behind a directory. So store a text as a whole
- * or not at all. A text of version 8 or earlier is refused: it has no directories.
+ * The card has the rights, the current directory, the challenge and the waiting
+ * bytes of its text. Where it was without power meanwhile, limpet_reset has to come
+ * next. A text that was cut off behind a directory or a file may not be refused: it
+ * can be that of a card without what followed. So store a text as a whole or not at
+ * all. A text of version 8 or earlier is refused: it has another form.
  *
  * A text that was read and is written again is the same text. A card that was
  * written and is read again is the same card with the same files.
@@ -301,7 +302,46 @@ uint8_t limpet_from_text(struct limpet_card *card,
                          const uint8_t *text, size_t text_len);
 
 /*
- * The caller's side of the five calls on a card:
+ * Before there were directories a card's text had another form. It is the old
+ * form; what limpet_to_text writes is the new one. docs/CARD-FILE.md has both
+ * side by side. These two make a text of the one form out of a text of the other:
+ * that of the same card, with the same files, tries, PINs and session. No card and
+ * no area is needed. The first *text_count bytes of the buffer are the text then.
+ *
+ * limpet_text_to_new: old is a text of the old form. In the new text every file
+ * lies in the root, and the root is the current directory.
+ *
+ * limpet_text_to_old: text_given is a text of the new form, of a card without
+ * directories.
+ *
+ *   LIMPET_OK          the buffer has the text. The rest of the buffer is as it
+ *                      was. There is no byte 0 behind the text.
+ *   LIMPET_BAD_TEXT    the text that is given is not, byte for byte, the text of a
+ *                      card in the form that it is to have.
+ *   LIMPET_DIRECTORY   limpet_text_to_old alone: the card has a directory, with
+ *                      files in it or without.
+ *   LIMPET_SHORT_TEXT  the text has more than text_len bytes. A buffer of
+ *                      LIMPET_TEXT_SIZE is long enough for every card.
+ *
+ * There is no other outcome, and the first that applies is returned. On a refusal
+ * the buffer is as it was, and *text_count is 0.
+ *
+ * A text that is converted and converted back is the same text. With a buffer of
+ * LIMPET_TEXT_SIZE limpet_text_to_new serves exactly the texts of the old form;
+ * those of the new one are what limpet_text_to_old serves, and what it refuses with
+ * LIMPET_DIRECTORY.
+ */
+uint8_t limpet_text_to_new(const uint8_t *old, size_t old_len,
+                           uint8_t *text, size_t text_len,
+                           size_t *text_count);
+
+uint8_t limpet_text_to_old(const uint8_t *text_given, size_t given_len,
+                           uint8_t *text, size_t text_len,
+                           size_t *text_count);
+
+/*
+ * The caller's side of the five calls on a card and of the two that convert a
+ * text:
  *   - card points to limpet_card_size() bytes that can be read, and written
  *     too where the pointer is not to const, and is never NULL. reply_count and
  *     text_count each point to a size_t, aligned as such, and are never NULL;

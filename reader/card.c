@@ -91,6 +91,21 @@ uint8_t card_from_text(const struct card_text *t)
     return outcome;
 }
 
+uint8_t card_text_into(enum text_form wanted, const struct card_text *given, struct card_text *t)
+{
+    return (wanted == NEW_FORM ? limpet_text_to_new : limpet_text_to_old)(given->at, given->len, t->at, sizeof t->at, &t->len);
+}
+
+/* What can be converted has the one form, and what has a directory the other. */
+bool card_text_has(enum text_form form, const struct card_text *t)
+{
+    static struct card_text converted;
+    uint8_t outcome = card_text_into(form == OLD_FORM ? NEW_FORM : OLD_FORM, t, &converted);
+
+    wipe(&converted, sizeof converted);
+    return outcome == LIMPET_OK || outcome == LIMPET_DIRECTORY;
+}
+
 /* SELECT, READ BINARY, READ RECORD, GET RESPONSE, GET CHALLENGE. None of them is shown a key or a PIN. */
 bool card_only_reads(struct bytes command)
 {
@@ -122,6 +137,7 @@ const char *outcome_says(uint8_t outcome)
         [LIMPET_BAD_ISSUE] = "the key is not 16 bytes, a PIN not 6 to 16 digits, a limit not 1 to 128, or the mode not 0 or 1",
         [LIMPET_SHORT_TEXT] = "the room for the card's lines is too short",
         [LIMPET_BAD_TEXT] = "these are not the lines of a sound card",
+        [LIMPET_DIRECTORY] = "the card has a directory, and the old form has none",
     };
     bool known = outcome < sizeof says / sizeof says[0] && says[outcome] != NULL;
     return known ? says[outcome] : "an outcome that does not exist";

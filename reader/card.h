@@ -32,6 +32,13 @@ uint8_t card_to_lasting_text(struct card_text *t);
 /* Has the card of these lines. Where they are refused there is none. */
 uint8_t card_from_text(const struct card_text *t);
 
+/* A text in the other form: the old one is that of before there were directories. The card is not touched. */
+enum text_form { OLD_FORM, NEW_FORM };
+uint8_t card_text_into(enum text_form wanted, const struct card_text *given, struct card_text *t);
+
+/* Whether it is the text of a card in that form, by the word of the library. */
+bool card_text_has(enum text_form form, const struct card_text *t);
+
 /* Whether the command is one of those that can change the session alone, by its class and instruction. */
 bool card_only_reads(struct bytes command);
 

@@ -63,7 +63,7 @@ static bool lock(int file, const char *what, const char *path)
             return false;
         }
         if (waited == BEFORE_WORD)
-            say("another program is using %s%s; waiting", what, path);
+            say_at_once("another program is using %s%s; waiting", what, path);
         pause_for(PAUSE);
     }
     return true;
@@ -194,13 +194,20 @@ void store_close(struct store *s)
     close(s->folder);
 }
 
-static void warn_of_others(const struct store *s)
+unsigned store_open_to_others(const struct store *s)
 {
     struct stat is;
 
-    if (fstat(s->file, &is) == 0 && (is.st_mode & OTHERS) != 0)
+    return fstat(s->file, &is) == 0 && (is.st_mode & OTHERS) != 0 ? is.st_mode & 0777 : 0;
+}
+
+void store_warn_of_others(const struct store *s)
+{
+    unsigned mode = store_open_to_others(s);
+
+    if (mode != 0)
         say("warning: %s is open to others (mode %03o), and has the key and the PINs as they are; say: chmod 600 %s",
-            s->path, (unsigned)is.st_mode & 0777, s->path);
+            s->path, mode, s->path);
 }
 
 bool store_has_card(const struct store *s)
@@ -208,8 +215,23 @@ bool store_has_card(const struct store *s)
     bool good = card_from_text(&s->text) == LIMPET_OK;
 
     if (good)
-        warn_of_others(s);
+        store_warn_of_others(s);
     return good;
+}
+
+/* The library alone says that a text is an old one, so that nobody is sent to convert what is none. */
+static void say_no_card(const struct store *s)
+{
+    char *word;
+
+    if (!card_text_has(OLD_FORM, &s->text)) {
+        say("%s: these are not the lines of a sound card; tools/card check says more", s->path);
+        return;
+    }
+    word = shell_word(s->path);
+    say("%s is a card in the old form, of before there were directories; this converts it: tools/card convert --to-new %s",
+        s->path, word == NULL ? s->path : word);
+    free(word);
 }
 
 bool store_load(const struct store *s)
@@ -217,7 +239,7 @@ bool store_load(const struct store *s)
     bool good = store_has_card(s);
 
     if (!good)
-        say("%s: these are not the lines of a sound card; tools/card check says more", s->path);
+        say_no_card(s);
     return good;
 }
 
@@ -484,6 +506,14 @@ static bool same_text(const struct card_text *one, const struct card_text *other
     return one->len == other->len && memcmp(one->at, other->at, one->len) == 0;
 }
 
+enum stored store_text(struct store *s, const struct card_text *text)
+{
+    enum stored stored = s->next >= 0 || store_prepare(s) ? put(s, text) : NOT_STORED;
+
+    store_drop(s);
+    return stored;
+}
+
 enum stored store_card(struct store *s, enum part part, enum when when)
 {
     struct card_text text;
@@ -494,8 +524,8 @@ enum stored store_card(struct store *s, enum part part, enum when when)
         say("cannot store %s: the card is not written, outcome %u: %s", s->path, (unsigned)outcome, outcome_says(outcome));
     else if (when == WHERE_CHANGED && same_text(&s->text, &text))
         stored = STORED;
-    else if (s->next >= 0 || store_prepare(s))
-        stored = put(s, &text);
+    else
+        stored = store_text(s, &text);
     store_drop(s);
     wipe(&text, sizeof text);
     return stored;

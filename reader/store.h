@@ -40,10 +40,16 @@ void store_warn_of_leftovers(const struct store *s);
 
 /*
  * Each has the card of this program be that of the file, and warns where others can open it. False where the file is none, which
- * only the second says.
+ * only the second says, and how one in the old form is converted.
  */
 bool store_has_card(const struct store *s);
 bool store_load(const struct store *s);
+
+/* The file's mode where others can open it, and else 0. */
+unsigned store_open_to_others(const struct store *s);
+
+/* Warns where they can. */
+void store_warn_of_others(const struct store *s);
 
 /*
  * Before a command is run: the file is still the card's, and the next file is there, with the room of the longest card. Signals
@@ -62,5 +68,8 @@ enum when { ALWAYS, WHERE_CHANGED };
 
 /* Has the file hold the card of this program: with its session, or as it is without power. Prepares it where nobody has. */
 enum stored store_card(struct store *s, enum part part, enum when when);
+
+/* Has the file hold a text that is a card's. */
+enum stored store_text(struct store *s, const struct card_text *text);
 
 #endif

@@ -36,15 +36,21 @@ uint8_t __real_limpet_from_text(struct limpet_card *card, uint8_t *area, size_t 
                                 const uint8_t *text, size_t text_len);
 uint8_t __wrap_limpet_from_text(struct limpet_card *card, uint8_t *area, size_t area_len,
                                 const uint8_t *text, size_t text_len);
+uint8_t __real_limpet_text_to_new(const uint8_t *old, size_t old_len, uint8_t *text, size_t text_len, size_t *text_count);
+uint8_t __wrap_limpet_text_to_new(const uint8_t *old, size_t old_len, uint8_t *text, size_t text_len, size_t *text_count);
+uint8_t __real_limpet_text_to_old(const uint8_t *given, size_t given_len, uint8_t *text, size_t text_len, size_t *text_count);
+uint8_t __wrap_limpet_text_to_old(const uint8_t *given, size_t given_len, uint8_t *text, size_t text_len, size_t *text_count);
 
 static bool has_fault(const char *name)
 {
-    const char *fault = getenv("FAULT");
+    static const char *fault; /* asked for once, since every call asks for many */
 
-    return fault != NULL && strcmp(fault, name) == 0;
+    if (fault == NULL)
+        fault = getenv("FAULT") != NULL ? getenv("FAULT") : "";
+    return strcmp(fault, name) == 0;
 }
 
-/* A fault of the calls that write and read a card as lines: only the program texts makes them. */
+/* A fault of the calls that write, read and convert a card as lines: only the program texts makes them. */
 static bool has_text_fault(const char *name)
 {
     return has_fault(name);
@@ -969,4 +975,197 @@ uint8_t __wrap_limpet_from_text(struct limpet_card *card, uint8_t *area, size_t 
     if (has_text_fault("reader-text-before-area") && outcome == LIMPET_BAD_AREA && text_len == 0)
         return LIMPET_BAD_TEXT;
     return outcome;
+}
+
+/* ---- texts that are converted ---- */
+
+static void be_text(struct lenient *t, const uint8_t *text, size_t length)
+{
+    if (length > 0)
+        memcpy(t->bytes, text, length);
+    t->length = length;
+}
+
+/* Without the last field of a line. */
+static void drop_last_field(struct lenient *t, struct text_line l)
+{
+    uint8_t *at = l.end;
+
+    while (at > l.at && at[-1] != '\t')
+        at--;
+    if (at > l.at)
+        put(t, at - 1, (size_t)(l.end - (at - 1)), "");
+}
+
+/* Without the lines of folders. */
+static void drop_folders(struct lenient *t)
+{
+    for (uint8_t *at = t->bytes; at < t->bytes + t->length;) {
+        struct text_line l = line_at(t, at);
+        if (l.tabs == 1 && l.end < t->bytes + t->length)
+            put(t, l.at, (size_t)(l.end + 1 - l.at), "");
+        else
+            at = l.end + 1;
+    }
+}
+
+static bool has_folder_line(struct lenient *t)
+{
+    for (uint8_t *at = t->bytes; at < t->bytes + t->length; at = line_at(t, at).end + 1)
+        if (line_at(t, at).tabs == 1)
+            return true;
+    return false;
+}
+
+/* Gives the files' lines, and the session's too, another folder, in a new text. */
+static void set_homes(struct lenient *t, const char *fid, bool session_too)
+{
+    unsigned number = 0;
+
+    for (uint8_t *at = t->bytes; at < t->bytes + t->length; number++) {
+        struct text_line l = line_at(t, at);
+        if ((l.tabs == 7 && session_too) || (number > 3 && l.tabs == 4))
+            put(t, l.end - 4, 4, fid);
+        at = l.end + 1;
+    }
+}
+
+static bool has_file_elsewhere(struct lenient *t)
+{
+    for (uint8_t *at = t->bytes; at < t->bytes + t->length; at = line_at(t, at).end + 1) {
+        struct text_line l = line_at(t, at);
+        if (l.tabs == 4 && !ends_with(&l, "\t3F00"))
+            return true;
+    }
+    return false;
+}
+
+/* The outcome of a call that writes this text. */
+static uint8_t put_out(const struct lenient *t, uint8_t *text, size_t text_len, size_t *text_count)
+{
+    if (t->length > text_len)
+        return LIMPET_SHORT_TEXT;
+    if (t->length > 0)
+        memcpy(text, t->bytes, t->length);
+    *text_count = t->length;
+    return LIMPET_OK;
+}
+
+/* Faults that either call may have, when it is done. */
+static uint8_t spoil_conversion(uint8_t outcome, const uint8_t *given, size_t given_len, uint8_t *text, size_t text_len, size_t *text_count)
+{
+    bool served = outcome == LIMPET_OK;
+
+    if (has_text_fault("conversion-past-its-end"))
+        flip(text, (ptrdiff_t)text_len);
+    if (has_text_fault("conversion-past-the-count") && served && *text_count < text_len)
+        flip(text, (ptrdiff_t)*text_count);
+    if (has_text_fault("conversion-last-byte-of-the-buffer") && served && *text_count < text_len)
+        flip(text, (ptrdiff_t)text_len - 1);
+    if (has_text_fault("conversion-on-bad-text") && outcome == LIMPET_BAD_TEXT && text_len > 0)
+        flip(text, 0);
+    if (has_text_fault("conversion-on-folder") && outcome == LIMPET_DIRECTORY && text_len > 0)
+        flip(text, 0);
+    if (has_text_fault("conversion-on-short-buffer") && outcome == LIMPET_SHORT_TEXT && text_len > 0)
+        flip(text, (ptrdiff_t)text_len - 1);
+    if (has_text_fault("conversion-count-on-bad-text") && outcome == LIMPET_BAD_TEXT)
+        *text_count = 1;
+    if (has_text_fault("conversion-count-on-folder") && outcome == LIMPET_DIRECTORY)
+        *text_count = given_len;
+    if (has_text_fault("conversion-count-on-short-buffer") && outcome == LIMPET_SHORT_TEXT)
+        *text_count = text_len;
+    if (has_text_fault("conversion-count-past-its-end"))
+        flip(text_count, sizeof *text_count);
+    if (has_text_fault("conversion-count-one-less") && served)
+        *text_count -= 1;
+    if (has_text_fault("conversion-writes-the-given-text") && given_len > 0)
+        flip(given, (ptrdiff_t)given_len - 1);
+    if (has_text_fault("conversion-reads-past-the-text") && given_len > 0)
+        (void)*(volatile const uint8_t *)(given + given_len);
+    if (has_text_fault("conversion-lower-case") && served)
+        lower_first_letter(text, *text_count);
+    if (has_text_fault("conversion-pins-swapped") && served)
+        swap_pins(text, *text_count);
+    if (has_text_fault("conversion-just-fits-refused") && served && *text_count == text_len)
+        return LIMPET_SHORT_TEXT;
+    if (has_text_fault("conversion-short-before-bad-text") && outcome == LIMPET_BAD_TEXT && text_len == 0)
+        return LIMPET_SHORT_TEXT;
+    return outcome;
+}
+
+/* As where an old text may have what only a new one has. */
+static void take_new_parts(struct lenient *t)
+{
+    unsigned number = 0;
+
+    for (uint8_t *at = t->bytes; at < t->bytes + t->length; number++) {
+        struct text_line l = line_at(t, at);
+        if (has_text_fault("to-new-takes-a-folder-on-the-session") && number == 3 && l.tabs == 7)
+            drop_last_field(t, l);
+        if (has_text_fault("to-new-takes-folders-on-files") && number > 3 && l.tabs == 4)
+            drop_last_field(t, l);
+        at = line_at(t, at).end + 1;
+    }
+    if (has_text_fault("to-new-takes-folders"))
+        drop_folders(t);
+}
+
+uint8_t __wrap_limpet_text_to_new(const uint8_t *old, size_t old_len, uint8_t *text, size_t text_len, size_t *text_count)
+{
+    static struct lenient other;
+    uint8_t outcome = __real_limpet_text_to_new(old, old_len, text, text_len, text_count);
+
+    if (getenv("FAULT") != NULL && old_len <= LONGEST_TEXT) {
+        be_text(&other, old, old_len);
+        if (has_text_fault("to-new-takes-a-new-text") && outcome == LIMPET_BAD_TEXT
+            && __real_limpet_text_to_old(old, old_len, other.bytes, LONGEST_TEXT, &other.length) == LIMPET_OK) {
+            be_text(&other, old, old_len);
+            outcome = put_out(&other, text, text_len, text_count);
+        }
+        if (outcome == LIMPET_BAD_TEXT) {
+            be_text(&other, old, old_len);
+            take_new_parts(&other);
+            outcome = __real_limpet_text_to_new(other.bytes, other.length, text, text_len, text_count);
+        }
+        if (outcome == LIMPET_OK) {
+            be_text(&other, text, *text_count);
+            if (has_text_fault("to-new-puts-files-elsewhere"))
+                set_homes(&other, "5101", false);
+            if (has_text_fault("to-new-leaves-the-root"))
+                set_homes(&other, "5101", true);
+            outcome = put_out(&other, text, text_len, text_count);
+        }
+    }
+    return spoil_conversion(outcome, old, old_len, text, text_len, text_count);
+}
+
+uint8_t __wrap_limpet_text_to_old(const uint8_t *given, size_t given_len, uint8_t *text, size_t text_len, size_t *text_count)
+{
+    static struct lenient other;
+    uint8_t outcome = __real_limpet_text_to_old(given, given_len, text, text_len, text_count);
+
+    if (getenv("FAULT") != NULL && given_len <= LONGEST_TEXT) {
+        if (has_text_fault("to-old-takes-an-old-text") && outcome == LIMPET_BAD_TEXT
+            && __real_limpet_text_to_new(given, given_len, other.bytes, LONGEST_TEXT, &other.length) == LIMPET_OK) {
+            be_text(&other, given, given_len);
+            outcome = put_out(&other, text, text_len, text_count);
+        }
+        be_text(&other, given, given_len);
+        if (has_text_fault("to-old-folder-before-bad-text") && outcome == LIMPET_BAD_TEXT && has_folder_line(&other))
+            outcome = LIMPET_DIRECTORY;
+        if (has_text_fault("to-old-short-before-folder") && outcome == LIMPET_DIRECTORY && text_len == 0)
+            outcome = LIMPET_SHORT_TEXT;
+        if (has_text_fault("to-old-folder-after-short") && outcome == LIMPET_DIRECTORY && text_len < given_len)
+            outcome = LIMPET_SHORT_TEXT;
+        if (has_text_fault("to-old-folder-is-a-bad-text") && outcome == LIMPET_DIRECTORY)
+            outcome = LIMPET_BAD_TEXT;
+        bool loses = has_text_fault("to-old-loses-folders");
+        loses = loses || (has_text_fault("to-old-loses-empty-folders") && !has_file_elsewhere(&other));
+        if (loses && outcome == LIMPET_DIRECTORY) {
+            set_homes(&other, "3F00", true);
+            drop_folders(&other);
+            outcome = __real_limpet_text_to_old(other.bytes, other.length, text, text_len, text_count);
+        }
+    }
+    return spoil_conversion(outcome, given, given_len, text, text_len, text_count);
 }

@@ -1,7 +1,9 @@
 /*
  * Texts of cards, most of them broken, given to the library's reader and to
  * that of bench/plain_text.c: both have to say the same, leave the same card
- * and area, and write an accepted text again byte for byte.
+ * and area, and write an accepted text again byte for byte. Each text is
+ * converted from the old form and from the new one too: both have to say the
+ * same and write the same, and what was converted goes back to the same text.
  *
  * Built for libFuzzer, which makes the texts and is guided by coverage, the
  * library is there twice: as it is, and compiled with counters (guided_...).
@@ -33,10 +35,12 @@ enum { LONGEST_INPUT = LIMPET_TEXT_SIZE + 256 };
 
 typedef uint8_t to_text(const struct limpet_card *, const uint8_t *, size_t, uint8_t *, size_t, size_t *);
 typedef uint8_t from_text(struct limpet_card *, uint8_t *, size_t, const uint8_t *, size_t);
+typedef uint8_t convert(const uint8_t *, size_t, uint8_t *, size_t, size_t *);
 
 #ifndef BY_ITSELF
 to_text guided_to_text;
 from_text guided_from_text;
+convert guided_text_to_new, guided_text_to_old;
 size_t LLVMFuzzerMutate(uint8_t *data, size_t size, size_t room);
 int LLVMFuzzerInitialize(int *count, char ***arguments);
 int LLVMFuzzerTestOneInput(const uint8_t *data, size_t size);
@@ -50,20 +54,25 @@ static const struct {
     const char *name;
     to_text *write;
     from_text *read;
+    convert *from[2]; /* by the form of the text that is given: the old one, the new one */
 } ways[] = {
-    { "plain C", plain_to_text, plain_from_text },
-    { "the library", limpet_to_text, limpet_from_text },
+    { "plain C", plain_to_text, plain_from_text, { plain_text_to_new, plain_text_to_old } },
+    { "the library", limpet_to_text, limpet_from_text, { limpet_text_to_new, limpet_text_to_old } },
 #ifndef BY_ITSELF
-    { "the library with counters", guided_to_text, guided_from_text },
+    { "the library with counters", guided_to_text, guided_from_text, { guided_text_to_new, guided_text_to_old } },
 #endif
 };
 enum { WAYS = sizeof ways / sizeof *ways };
 
-static unsigned long accepted, refused;
+enum { FROM_OLD, FROM_NEW, FORMS };
+static const char *const conversions[FORMS] = { "to new", "to old" };
+
+static unsigned long accepted, refused, converted[FORMS], with_folder;
 
 static void print_counts(void)
 {
     printf("accepted %lu\nrefused %lu\n", accepted, refused);
+    printf("to new %lu\nto old %lu\nwith a directory %lu\n", converted[FROM_OLD], converted[FROM_NEW], with_folder);
     fflush(stdout);
 }
 
@@ -173,6 +182,95 @@ static bool is_same(int way, const struct reading *r, const struct reading *firs
     return true;
 }
 
+/* What a call that converts left, in a buffer of the size of the longest text. */
+struct conversion {
+    uint8_t outcome, text[LIMPET_TEXT_SIZE];
+    size_t count;
+};
+
+/* Converts a text with so much room. Where it is refused nothing is written, and past the text nothing either. */
+static bool convert_with(int way, int form, const struct buffers *b, const uint8_t *text, size_t size, size_t room, struct conversion *c)
+{
+    uint8_t *made = b->again_end - room;
+
+    c->count = 1;
+    memcpy(made, b->before, room);
+    c->outcome = ways[way].from[form](text, size, room > 0 ? made : NULL, room, &c->count);
+    if (c->count > room || (c->outcome != LIMPET_OK && c->count != 0))
+        return differ("%s, %s: outcome %u, %zu bytes of %zu", ways[way].name, conversions[form], c->outcome, c->count, room);
+    if (memcmp(made + c->count, b->before, room - c->count) != 0)
+        return differ("%s, %s: outcome %u, and the buffer is not as it was", ways[way].name, conversions[form], c->outcome);
+    memcpy(c->text, made, c->count);
+    return true;
+}
+
+/* Where a text is converted: with a byte less it is not, with just that room it is, and it goes back to what it was. */
+static bool goes_back(int way, int form, const struct buffers *b, const uint8_t *text, size_t size, const struct conversion *first)
+{
+    struct conversion c;
+    static uint8_t given[LIMPET_TEXT_SIZE];
+
+    if (!convert_with(way, form, b, text, size, first->count - 1, &c))
+        return false;
+    if (c.outcome != LIMPET_SHORT_TEXT)
+        return differ("%s, %s: the buffer is too short by one: outcome %u", ways[way].name, conversions[form], c.outcome);
+    if (!convert_with(way, form, b, text, size, first->count, &c))
+        return false;
+    if (c.outcome != LIMPET_OK || c.count != first->count || memcmp(c.text, first->text, c.count) != 0)
+        return differ("%s, %s: with just the room: outcome %u, %zu bytes, not the text", ways[way].name, conversions[form], c.outcome,
+                      c.count);
+    memcpy(given, c.text, c.count);
+    if (!convert_with(way, FORMS - 1 - form, b, given, first->count, size, &c))
+        return false;
+    if (c.outcome != LIMPET_OK || c.count != size || memcmp(c.text, text, size) != 0)
+        return differ("%s, %s and back: outcome %u, %zu bytes, not the text", ways[way].name, conversions[form], c.outcome, c.count);
+    return true;
+}
+
+/* Whether all convert a text alike from that form, with all the room that there can be and with none. */
+static bool convert_alike(int form, const struct buffers *b, const uint8_t *text, size_t size)
+{
+    static struct conversion first, c;
+    struct conversion without_room;
+
+    for (int way = 0; way < WAYS; way++) {
+        if (!convert_with(way, form, b, text, size, LIMPET_TEXT_SIZE, &c) || !convert_with(way, form, b, text, size, 0, &without_room))
+            return false;
+        if (way == 0)
+            first = c;
+        if (c.outcome != first.outcome || c.count != first.count || memcmp(c.text, first.text, c.count) != 0)
+            return differ("%s, %s: outcome %u, %zu bytes; %s: outcome %u, %zu bytes, or another text", ways[way].name, conversions[form],
+                          c.outcome, c.count, ways[0].name, first.outcome, first.count);
+        if (without_room.outcome != (c.outcome == LIMPET_OK ? LIMPET_SHORT_TEXT : c.outcome))
+            return differ("%s, %s: outcome %u, and %u with no room", ways[way].name, conversions[form], c.outcome, without_room.outcome);
+        if (c.outcome == LIMPET_OK && size > LIMPET_TEXT_SIZE)
+            return differ("%s, %s: converted, and no card has a text of %zu bytes", ways[way].name, conversions[form], size);
+        if (c.outcome == LIMPET_OK && !goes_back(way, form, b, text, size, &first))
+            return false;
+    }
+    converted[form] += first.outcome == LIMPET_OK;
+    with_folder += first.outcome == LIMPET_DIRECTORY;
+    return true;
+}
+
+/* A text has one form at most: what is read is what goes from the new form, or has a directory, and nothing of it goes from the old one. */
+static bool has_one_form(uint8_t reading, unsigned long from_old, unsigned long from_new)
+{
+    if ((reading == LIMPET_OK) != (from_new > 0))
+        return differ("the reader: outcome %u, and to old says something else", reading);
+    if (from_old > 0 && from_new > 0)
+        return differ("the text has both forms");
+    return true;
+}
+
+static bool convert_both_ways(const struct buffers *b, const uint8_t *text, size_t size, uint8_t reading)
+{
+    unsigned long from_old = converted[FROM_OLD], from_new = converted[FROM_NEW] + with_folder;
+
+    return convert_alike(FROM_OLD, b, text, size) && convert_alike(FROM_NEW, b, text, size)
+        && has_one_form(reading, converted[FROM_OLD] - from_old, converted[FROM_NEW] + with_folder - from_new);
+}
+
 /* Whether all say the same of a text, and what they say is right of any. */
 static bool agree(const uint8_t *data, size_t size)
 {
@@ -194,7 +292,7 @@ static bool agree(const uint8_t *data, size_t size)
             return false;
     }
     *(first.outcome == LIMPET_OK ? &accepted : &refused) += 1;
-    return true;
+    return convert_both_ways(b, text, size, first.outcome);
 }
 
 /* ------------------------------------------------------ changes to a text */
@@ -698,6 +796,34 @@ static void change_home(struct draft *d)
     put(d, (struct part){ line.to - 1 - FID_LENGTH, line.to - 1 }, home, FID_LENGTH);
 }
 
+/* The session's line and those of files, or one of them, in the other form: without a folder, or with the root. */
+static void change_to_other_form(struct draft *d)
+{
+    size_t number = 0;
+    bool all = below(d, 4) > 0;
+
+    for (size_t at = 0; at < d->size; number++) {
+        struct part line = up_to(d, at, '\n');
+        unsigned tabs = 0;
+        for (size_t i = line.from; i < line.to; i++)
+            tabs += d->at[i] == '\t';
+        bool has_home = number == LINES_BEFORE_FILES - 1 ? tabs == 7 : number >= LINES_BEFORE_FILES && tabs == 4;
+        bool has_none = number == LINES_BEFORE_FILES - 1 ? tabs == 6 : number >= LINES_BEFORE_FILES && tabs == 3;
+        if (has_home && line.to - line.from > FID_LENGTH + 2 && (all || below(d, 2) > 0))
+            remove_part(d, (struct part){ line.to - FID_LENGTH - 2, line.to - 1 });
+        else if (has_none && (all || below(d, 2) > 0))
+            put_string(d, (struct part){ line.to - 1, line.to - 1 }, "\t3F00");
+        at = up_to(d, at, '\n').to;
+    }
+}
+
+/* Without the lines of folders. */
+static void remove_folders(struct draft *d)
+{
+    for (struct blocks b = find_blocks(d); b.count > 0 && is_folder(b.at[0]); b = find_blocks(d))
+        remove_part(d, b.at[0]);
+}
+
 /* Some file becomes current, or none; and as a rule the folder that it lies in. */
 static void change_current(struct draft *d)
 {
@@ -734,7 +860,8 @@ size_t LLVMFuzzerCustomMutator(uint8_t *data, size_t size, size_t room, unsigned
         change_bytes, change_bytes, change_digit, change_digit, change_byte_in_hex, change_byte_in_hex, change_field, change_field,
         resize_field, change_tries, change_waiting, change_waiting, change_form, add_field, remove_line, copy_line, move_line,
         remove_block, remove_block, move_block,
-        copy_block, add_file, add_file, add_folder, add_folder, change_home, change_home, change_current, change_current, cut_off
+        copy_block, add_file, add_file, add_folder, add_folder, change_home, change_home, change_current, change_current, cut_off,
+        change_to_other_form, change_to_other_form, remove_folders
     };
     struct draft d = { data, size, room, seed * 2654435761u | 1u };
 
@@ -787,10 +914,11 @@ static const char usage[] =
     "usage: fuzz_texts seeds FOLDER\n"
     "       fuzz_texts blind RUNS SECONDS FILE\n"
     "\n"
-    "seeds: makes cards in use through the library and writes their texts into FOLDER.\n"
+    "seeds: makes cards in use through the library and writes their texts into FOLDER, in\n"
+    "the new form, and in the old one too where they have no directory.\n"
     "blind: changes these texts at random and gives them to the library and to plain C,\n"
-    "RUNS times or until SECONDS have passed, and prints how many were run, accepted and\n"
-    "refused. A text of which the two do not say the same goes into FILE.\n";
+    "RUNS times or until SECONDS have passed, and prints how many were run, accepted,\n"
+    "refused and converted. A text of which the two do not say the same goes into FILE.\n";
 
 struct text {
     uint8_t at[LONGEST_INPUT];
@@ -852,6 +980,17 @@ static void with_longest_text(struct held *h)
 
 enum { SEEDS = SORTS + 1 };
 
+/* Makes it a text of the old form, where the card has no folder. */
+static bool make_old(struct text *t)
+{
+    static struct text old;
+
+    if (limpet_text_to_old(t->at, t->size, old.at, sizeof old.at, &old.size) != LIMPET_OK)
+        return false;
+    *t = old;
+    return true;
+}
+
 static void make_seed(struct text *t, size_t which)
 {
     struct held h = hold(NULL, LIMPET_AREA_SIZE);
@@ -884,9 +1023,13 @@ static int write_seeds(const char *folder)
 
     for (size_t i = 0; i < SEEDS; i++) {
         make_seed(&t, i);
-        if (snprintf(file, sizeof file, "%s/%zu", folder, i) >= (int)sizeof file)
+        if (snprintf(file, sizeof file, "%s/%zu", folder, i) >= (int)sizeof file - 4)
             stop(folder, "the name is too long");
         save(file, &t);
+        if (make_old(&t)) {
+            strcat(file, "-old");
+            save(file, &t);
+        }
     }
     return EXIT_SUCCESS;
 }
@@ -905,9 +1048,11 @@ static int run_blindly(unsigned long runs, double seconds, const char *file)
             make_seed(&kept[i], i);
         else
             kept[i] = kept[i % SEEDS];
+    for (size_t i = SEEDS; i < 2 * SEEDS && i < KEPT; i++)
+        make_old(&kept[i]);
     for (; run < runs && (run % 256 != 0 || now() - start < seconds); run++) {
         const struct text *one = &kept[below(&choice, KEPT)], *other = &kept[below(&choice, KEPT)];
-        unsigned long before = accepted;
+        unsigned long before = accepted + converted[FROM_OLD];
         t = *one;
         if (below(&choice, 16) == 0)
             t.size = LLVMFuzzerCustomCrossOver(one->at, one->size, other->at, other->size, t.at, sizeof t.at, choice.state);
@@ -917,7 +1062,7 @@ static int run_blindly(unsigned long runs, double seconds, const char *file)
             save(file, &t);
             return EXIT_FAILURE;
         }
-        if (accepted > before)
+        if (accepted + converted[FROM_OLD] > before)
             kept[below(&choice, KEPT)] = t;
     }
     printf("inputs %lu\nseconds %.0f\n", run, now() - start);

@@ -23,9 +23,9 @@ static void usage(FILE *to)
 {
     fputs("usage: stack <SCRIPT\n"
           "\n"
-          "Plays the calls of a script, and writes and reads the card as a text after each\n"
-          "line. Prints the most bytes of stack that each kind of call took, and those of\n"
-          "limpet_aes128.\n", to);
+          "Plays the calls of a script, and after each line writes and reads the card as a\n"
+          "text, and converts it into the other form and back. Prints the most bytes of stack\n"
+          "that each kind of call took, and those of limpet_aes128.\n", to);
 }
 
 static void play_apart(void)
@@ -47,6 +47,24 @@ static size_t text_count;
 static void write_apart(void)
 {
     limpet_to_text((const struct limpet_card *)player.card, player.area, sizeof player.area, text, sizeof text, &text_count);
+}
+
+/* The text in the old form; none where the card has a directory. */
+static uint8_t old[LIMPET_TEXT_SIZE];
+static size_t old_count;
+
+static void to_old_apart(void)
+{
+    limpet_text_to_old(text, text_count, old, sizeof old, &old_count);
+}
+
+/* Where there is no old text the new one is given, which is refused after it is read. */
+static void to_new_apart(void)
+{
+    static uint8_t converted[LIMPET_TEXT_SIZE];
+    size_t count;
+
+    limpet_text_to_new(old_count > 0 ? old : text, old_count > 0 ? old_count : text_count, converted, sizeof converted, &count);
 }
 
 static void read_apart(void)
@@ -97,7 +115,8 @@ int main(int count, char **arguments)
 {
     static const struct line no_call = { .wrong = "no call" };
     static const char *const names[] = { [ISSUE_LINE] = "issue", [CMD_LINE] = "command", [RESET_LINE] = "reset" };
-    size_t lines, most[] = { [ISSUE_LINE] = 0, [CMD_LINE] = 0, [RESET_LINE] = 0 }, most_written = 0, most_read = 0;
+    size_t lines, most[] = { [ISSUE_LINE] = 0, [CMD_LINE] = 0, [RESET_LINE] = 0 }, most_written = 0, most_read = 0,
+           most_to_old = 0, most_to_new = 0;
 
     if (count != 1) {
         usage(count == 2 && strcmp(arguments[1], "--help") == 0 ? stdout : stderr);
@@ -111,12 +130,16 @@ int main(int count, char **arguments)
         raise_to(&most[script[i].line.kind], stack_of_line(&script[i].line) - own);
         raise_to(&most_written, stack_of(write_apart));
         raise_to(&most_read, stack_of(read_apart));
+        raise_to(&most_to_old, stack_of(to_old_apart));
+        raise_to(&most_to_new, stack_of(to_new_apart));
     }
     free(script);
     for (enum kind k = ISSUE_LINE; k <= RESET_LINE; k++)
         printf("%zu bytes of stack: %s\n", most[k], names[k]);
     printf("%zu bytes of stack: to_text\n", most_written);
     printf("%zu bytes of stack: from_text\n", most_read);
+    printf("%zu bytes of stack: text_to_old\n", most_to_old);
+    printf("%zu bytes of stack: text_to_new\n", most_to_new);
     printf("%zu bytes of stack: aes128\n", stack_of(encipher_apart));
     return EXIT_SUCCESS;
 }

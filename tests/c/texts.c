@@ -1,10 +1,12 @@
 /*
  * The calls that write a card as lines and read it, limpet_to_text and
- * limpet_from_text, held to what the model says of them. Reads cases from
+ * limpet_from_text, and those that convert such lines, limpet_text_to_new and
+ * limpet_text_to_old, held to what the model says of them. Reads cases from
  * standard input, in the form that tests/model/text_cases.py has. Every byte
  * that a call lends is looked at, and so are the guard bytes around it.
  *
- * A line for each kind of text, with how many were accepted and refused.
+ * A line for each kind of text, with how many were accepted and refused, and one
+ * for each way to convert.
  */
 #define _DEFAULT_SOURCE /* MAP_ANONYMOUS */
 
@@ -46,12 +48,18 @@ struct tally {
     unsigned long accepted, refused;
 };
 
+/* How many texts were given to one of the calls that convert. */
+struct conversions {
+    unsigned long converted, refused, with_folder, rooms;
+};
+
 struct run {
     struct held first, second; /* the card of a script, and one that was read from its text */
     bool has_second;
     unsigned long commands, writings, rooms, spoiled;
     struct tally tallies[MOST_TALLIES];
     size_t tally_count;
+    struct conversions to_new, to_old;
     bool is_short, ends_at_first;
 };
 
@@ -80,6 +88,10 @@ static size_t fields_of(int letter)
 {
     switch (letter) {
     case 'I':
+    case 'N':
+    case 'O':
+    case 'n':
+    case 'o':
         return 7;
     case 'C':
     case 'T':
@@ -153,7 +165,7 @@ static struct given given_of(struct bytes b)
     return (struct given){ b.at, b.len, false };
 }
 
-/* ---- the two calls, watched ---- */
+/* ---- the calls, watched ---- */
 
 /* Bytes that no call would write by chance, and none of them 00. */
 static const uint8_t *noise(void)
@@ -234,7 +246,7 @@ static void check_text(const struct lent *text, size_t count, uint8_t outcome, s
         return;
     }
     if (count > text->length || count != due.len || !are_same(text->bytes, due.at, count)) {
-        wrong("the text is not the card's");
+        wrong("the text is not that of the card");
         return;
     }
     if (!are_same(text->bytes + count, noise() + count, text->length - count))
@@ -595,11 +607,149 @@ static void try_lengths(struct run *r, const struct model *m)
     try_all_spoiled(r, m);
 }
 
+/* ---- conversions ---- */
+
+typedef uint8_t convert(const uint8_t *given, size_t given_len, uint8_t *text, size_t text_len, size_t *text_count);
+
+/* A call that converts, and the one that goes back. */
+struct way {
+    const char *name, *back_name;
+    convert *call, *back;
+};
+
+static const struct way to_new = { "to new", "back to old", limpet_text_to_new, limpet_text_to_old };
+static const struct way to_old = { "to old", "back to new", limpet_text_to_old, limpet_text_to_new };
+
+/* A text to convert, and what the model says of it: with enough room, with none, and what is made of it, none where it is refused. */
+struct conversion {
+    const struct way *way;
+    struct bytes given;
+    uint8_t outcome, without_room;
+    struct model made;
+};
+
+static struct conversion conversion_of(int letter, const struct bytes fields[7])
+{
+    const struct way *way = letter == 'N' || letter == 'n' ? &to_new : &to_old;
+
+    if (fields[2].len != 1 || fields[3].len != 1)
+        bad_input("an outcome of another length");
+    return (struct conversion){ way, fields[1], fields[2].at[0], fields[3].at[0], model_of(fields + 4) };
+}
+
+static uint8_t due_with(const struct conversion *c, size_t room)
+{
+    return c->outcome == LIMPET_OK && room >= c->made.text.len ? LIMPET_OK : c->without_room;
+}
+
+/* Converts a text into a buffer of that room, which is to end so. */
+static void convert_text(const char *name, convert *call, struct bytes text, size_t room, uint8_t due_outcome, struct bytes due)
+{
+    size_t count = (size_t)-1 / 3; /* what it holds before does not matter */
+    struct lent given = lend(text.at, text.len), made = lend(noise(), room);
+    struct lent counted = lend_at(0, (const uint8_t *)&count, sizeof count);
+
+    calls++;
+    uint8_t outcome = call(start(&given), given.length, start(&made), room, (size_t *)(void *)counted.bytes);
+    memcpy(&count, counted.bytes, sizeof count);
+    check_outcome(name, outcome, due_outcome);
+    check_kept("given text", &given, text.at);
+    check_guards("count", &counted);
+    check_text(&made, count, outcome, due);
+    give_back(&given);
+    give_back(&made);
+    give_back(&counted);
+}
+
+static void convert_with(const struct conversion *c, size_t room)
+{
+    convert_text(c->way->name, c->way->call, c->given, room, due_with(c, room), c->made.text);
+}
+
+/* What was converted goes back, is of one form alone, and a new text is that of the same card with every file in the root. */
+static void look_at_converted(const struct conversion *c)
+{
+    static const struct bytes none;
+    struct held h = hold_noise(LIMPET_AREA_SIZE);
+
+    convert_text(c->way->back_name, c->way->back, c->made.text, c->given.len, LIMPET_OK, c->given);
+    convert_text("the other way", c->way->back, c->given, LIMPET_TEXT_SIZE, LIMPET_BAD_TEXT, none);
+    read_into(&h, c->way == &to_new ? c->made.text : c->given, LIMPET_OK, c->made.card, c->made.contents);
+    let_go(&h);
+}
+
+static void try_conversion(struct run *r, struct bytes name, const struct conversion *c)
+{
+    static char names[sizeof r->tallies[0].name];
+    static unsigned shown;
+    struct conversions *t = c->way == &to_new ? &r->to_new : &r->to_old;
+    size_t length = c->made.text.len;
+    const size_t rooms[] = { 0, LIMPET_TEXT_SIZE, 1, length + 1, length - (length > 0), c->given.len };
+    unsigned long wrongs_before = wrongs;
+
+    snprintf(names, sizeof names, "%s, %.*s", c->way->name, (int)name.len, (const char *)name.at);
+    call_name = names;
+    call_number = t->converted + t->refused + t->with_folder + 1;
+    convert_with(c, rooms[call_number % (sizeof rooms / sizeof rooms[0])]);
+    if (c->outcome == LIMPET_OK) {
+        convert_with(c, length);
+        if (wrongs == wrongs_before)
+            look_at_converted(c);
+    }
+    *(c->outcome == LIMPET_OK ? &t->converted : c->outcome == LIMPET_DIRECTORY ? &t->with_folder : &t->refused) += 1;
+    if (wrongs != wrongs_before && shown < MOST_SHOWN_TEXTS) {
+        shown++;
+        show_text(c->given);
+    }
+}
+
+/* From memory that cannot be written to. */
+static void convert_from_read_only(const struct conversion *c)
+{
+    static uint8_t text[LIMPET_TEXT_SIZE];
+    size_t count = 0;
+    uint8_t *page = mmap(NULL, c->given.len, PROT_READ | PROT_WRITE, MAP_PRIVATE | MAP_ANONYMOUS, -1, 0);
+
+    if (page == MAP_FAILED)
+        bad_input("no memory");
+    memcpy(page, c->given.at, c->given.len);
+    if (mprotect(page, c->given.len, PROT_READ) != 0)
+        bad_input("memory cannot be protected");
+    calls++;
+    check_outcome("from memory that is only read", c->way->call(page, c->given.len, text, sizeof text, &count), c->outcome);
+    if (count != c->made.text.len || !are_same(text, c->made.text.at, count))
+        wrong("from memory that is only read there is another text");
+    munmap(page, c->given.len);
+}
+
+/* Every length of the text buffer where the text is short; else those around the text's, and some others. */
+static void convert_with_all_rooms(struct run *r, const struct conversion *c)
+{
+    enum { LONG = 1000 };
+    static const size_t longer[] = { LIMPET_TEXT_SIZE - 1, LIMPET_TEXT_SIZE, LIMPET_TEXT_SIZE + 1, LONGEST_ROOM };
+    size_t length = c->outcome == LIMPET_OK ? c->made.text.len : c->given.len;
+    struct conversions *t = c->way == &to_new ? &r->to_new : &r->to_old;
+
+    call_name = "length of the buffer of a text that is converted";
+    for (size_t room = 0; room <= length + BEHIND; room++) {
+        call_number = room;
+        if ((!r->is_short && length < LONG) || room < 3 || room + BEHIND > length || room % 509 == 0) {
+            convert_with(c, room);
+            t->rooms++;
+        }
+    }
+    for (size_t i = 0; i < sizeof longer / sizeof longer[0]; i++)
+        convert_with(c, longer[i]);
+    if (!r->ends_at_first) /* as where a card is written */
+        convert_from_read_only(c);
+}
+
 /* ---- the whole ---- */
 
 static void run_record(struct run *r, const struct record *c, unsigned long number)
 {
     struct model m;
+    struct conversion converted;
 
     call_name = "case";
     call_number = number;
@@ -617,6 +767,16 @@ static void run_record(struct run *r, const struct record *c, unsigned long numb
         m = model_of(c->fields + 1);
         try_text(r, c->fields[0], &m);
         break;
+    case 'N':
+    case 'O':
+        converted = conversion_of(c->letter, c->fields);
+        try_conversion(r, c->fields[0], &converted);
+        break;
+    case 'n':
+    case 'o':
+        converted = conversion_of(c->letter, c->fields);
+        convert_with_all_rooms(r, &converted);
+        break;
     default:
         m = model_of(c->fields);
         if (m.card.len == 0 || m.text.len == 0)
@@ -626,6 +786,12 @@ static void run_record(struct run *r, const struct record *c, unsigned long numb
         else
             try_lengths(r, &m);
     }
+}
+
+static void print_conversions(const char *name, const struct conversions *t)
+{
+    printf("%s: %lu texts, %lu converted, %lu with a directory, %lu refused; %lu text buffers\n", name,
+           t->converted + t->with_folder + t->refused, t->converted, t->with_folder, t->refused, t->rooms);
 }
 
 static void print_counts(const struct run *r)
@@ -641,6 +807,8 @@ static void print_counts(const struct run *r)
         refused += t->refused;
     }
     printf("all texts: %lu, %lu accepted, %lu refused\n", accepted + refused, accepted, refused);
+    print_conversions("to new", &r->to_new);
+    print_conversions("to old", &r->to_old);
 }
 
 static void run_all(struct run *r, FILE *input)

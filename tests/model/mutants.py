@@ -4,7 +4,7 @@ Each entry changes one place of the model, as someone might misread the papers. 
 scripts; a test passes when its output differs from the true model's. So a program with that error would be caught by
 tests/model/compare.py within the lines printed at the end. Errors in calls that a script cannot make, or in bytes that it
 cannot see, are put before the self-test instead. Errors in a card written as lines are put before the changed texts that
-tests/texts gives to the library, and before the self-test too.
+tests/texts gives to the library, and before the self-test too; and so are those in texts that are converted.
 """
 
 import argparse
@@ -24,6 +24,7 @@ import text_cases
 SCRIPTS = 10
 LINES = 2000
 TEXTS = 10000
+CONVERTED = 2000
 
 CARD, SCRIPT, TEXT, SELFTEST = "card.py", "script.py", "text.py", "selftest.py"
 
@@ -999,7 +1000,51 @@ IN_CALLS = (
      "    card, contents = found\n    area[:sum(file.extent for file in card.files)] = contents.rstrip(b'\\x00')\n",
      "bytes past the last file left as they were"),
 )
+TO_OLD_REFUSAL = "    if card.folders:\n        return FOLDER_PRESENT, 0\n"
+TO_NEW_WRITTEN = "    return put(to_text(*found, NEW), buffer)\n"
+TO_OLD_WRITTEN = "    return put(to_text(card, area, OLD), buffer)\n"
+OLD_FIELDS = "        return lines.take(count), ROOT_FIELD\n"
+NO_FOLDERS = "    for file in card.files:\n        file.folder = cards.ROOT\n    card.folder, card.folders = cards.ROOT, []\n"
+# Errors in texts that are converted. Changed texts and the self-test must notice them.
+IN_CONVERSIONS = (
+    (TEXT, TO_OLD_REFUSAL, "    if len(buffer) < len(text) - 5 * (1 + len(card.files)):\n        return SHORT_TEXT, 0\n" + TO_OLD_REFUSAL, "10 before 13"),
+    (TEXT, TO_OLD_REFUSAL, "    if not buffer:\n        return SHORT_TEXT, 0\n" + TO_OLD_REFUSAL, "10 before 13 where there is no room at all"),
+    (TEXT, TO_OLD_REFUSAL, NO_FOLDERS, "a directory lost silently"),
+    (TEXT, TO_OLD_REFUSAL, "    if any(file.folder is not cards.ROOT for file in card.files):\n        return FOLDER_PRESENT, 0\n" + NO_FOLDERS,
+     "a directory without files lost silently"),
+    (TEXT, TO_OLD_REFUSAL, "    if card.folder is not cards.ROOT:\n        return FOLDER_PRESENT, 0\n" + NO_FOLDERS,
+     "a directory that is not current lost silently"),
+    (TEXT, TO_OLD_REFUSAL, "    if len(card.folders) > 1:\n        return FOLDER_PRESENT, 0\n" + NO_FOLDERS, "one directory lost silently"),
+    (TEXT, TO_OLD_REFUSAL, "    if card.folders:\n        return BAD_TEXT, 0\n", "11 for a directory"),
+    (TEXT, TO_OLD_REFUSAL, "    if card.folders:\n        return FOLDER_PRESENT, len(text)\n", "a count with 13"),
+    (TEXT, TO_OLD_REFUSAL, "    if card.folders:\n        buffer[:1] = text[:len(buffer[:1])]\n        return FOLDER_PRESENT, 0\n", "a byte written with 13"),
+    (TEXT, "    found = from_text(text, NEW)\n",
+     '    if any(line.count(b"\\t") == 1 for line in text.split(b"\\n")):\n        return FOLDER_PRESENT, 0\n    found = from_text(text, NEW)\n',
+     "13 before 11"),
+    (TEXT, "    found = from_text(text, NEW)\n", "    if not buffer:\n        return SHORT_TEXT, 0\n    found = from_text(text, NEW)\n",
+     "10 before 11, to old"),
+    (TEXT, "    found = from_text(text, OLD)\n", "    if not buffer:\n        return SHORT_TEXT, 0\n    found = from_text(text, OLD)\n",
+     "10 before 11, to new"),
+    (TEXT, "    found = from_text(text, OLD)\n", "    if from_text(text) is not None:\n        return put(text, buffer)\n    found = from_text(text, OLD)\n",
+     "a new text taken as it is"),
+    (TEXT, "    found = from_text(text, NEW)\n",
+     "    if from_text(text, OLD) is not None:\n        return put(text, buffer)\n    found = from_text(text, NEW)\n", "an old text taken as it is"),
+    (TEXT, TO_NEW_WRITTEN, "    for file in found[0].files:\n        file.folder = found[0].current\n" + TO_NEW_WRITTEN,
+     "files put into the current file in the place of the root"),
+    (TEXT, TO_NEW_WRITTEN, "    found[0].folder = found[0].current or cards.ROOT\n" + TO_NEW_WRITTEN, "the current file as the current directory"),
+    (TEXT, TO_NEW_WRITTEN, "    found[0].current = None\n" + TO_NEW_WRITTEN, "no current file kept, to new"),
+    (TEXT, TO_NEW_WRITTEN, "    cards.reset(*found)\n" + TO_NEW_WRITTEN, "a session that ends, to new"),
+    (TEXT, TO_OLD_WRITTEN, "    cards.reset(card, area)\n" + TO_OLD_WRITTEN, "a session that ends, to old"),
+    (TEXT, TO_NEW_WRITTEN, "    return put(to_text(*found, OLD), buffer)\n", "an old text of an old one"),
+    (TEXT, TO_OLD_WRITTEN, "    return put(to_text(card, area), buffer)\n", "a new text of a new one"),
+    (TEXT, OLD_FIELDS, "        return lines.take(count + (count == 7 and lines.next_has(8)))[:count], ROOT_FIELD\n",
+     "the directory of the session's line not looked at in an old text"),
+    (TEXT, OLD_FIELDS, "        return lines.take(count + (count == 4 and lines.next_has(5)))[:count], ROOT_FIELD\n",
+     "the directory of a file's line not looked at in an old text"),
+    (TEXT, "    while form == NEW and lines.next_has(2):\n", "    while lines.next_has(2):\n", "directories in an old text"),
+)
 TEXT_SELFTESTS = ("test_text_example", "test_text_fields", "test_text_folders", "test_text_lines", "test_text_sizes", "test_text_calls")
+CONVERSION_SELFTESTS = ("test_text_conversions",)
 
 # Errors with these words change nothing that a script can show, and must not be noticed. They stand in the list because
 # they name what only proofs, and not scripts, can hold the program to.
@@ -1088,6 +1133,34 @@ def changed_texts():
     return [(tried, reading(text, selftest.snapshot, tried)) for _, tried in made]
 
 
+def conversion(texts, form, tried):
+    """What becomes of a text that is given in that form, with room for every text, with none, and with a byte less than the last."""
+    convert = texts.to_new if form == text.OLD else texts.to_old
+    made = []
+    for room in (9518, 0, None):
+        buffer = bytearray(b"\xEE" * (max(made[0][1] - 1, 0) if room is None else room))
+        made.append((*convert(tried, buffer), bytes(buffer)))
+    return made
+
+
+def texts_to_convert():
+    """Changed texts to convert, by turns of each form, each with what becomes of it by the true model."""
+    made = [[(form, tried) for _, tried in text_cases.texts_to_convert(generate.Dice(1), CONVERTED, form, [])] for form in (text.OLD, text.NEW)]
+    return [(form, tried, conversion(text, form, tried)) for both in zip(*made) for form, tried in both]
+
+
+def conversions_until_noticed(modules, tests):
+    """How many texts it takes to see a difference, or None."""
+    for number, (form, tried, expected) in enumerate(tests, 1):
+        try:
+            given = conversion(modules[TEXT], form, tried)
+        except Exception:  # As above.
+            return number
+        if given != expected:
+            return number
+    return None
+
+
 def told(name, needed):
     needed.sort()
     return "noticed after %d %s in the middle, the slowest after %d: %s" % (needed[len(needed) // 2][0], name, *needed[-1])
@@ -1122,7 +1195,16 @@ def main():
         else:
             failed += 1
             print("FAILED: %s: not noticed by %d texts" % (error, len(texts)))
-    for mutants, names in ((UNSHOWN, SELFTESTS), (IN_LINES + IN_CALLS, TEXT_SELFTESTS)):
+    converted, conversions_needed = texts_to_convert(), []
+    for file, old, new, error in IN_CONVERSIONS:
+        noticed = conversions_until_noticed(mutated(file, old, new), converted)
+        conversions_needed.append((noticed or 0, error))
+        if noticed is not None:
+            passed += 1
+        else:
+            failed += 1
+            print("FAILED: %s: not noticed by %d texts to convert" % (error, len(converted)))
+    for mutants, names in ((UNSHOWN, SELFTESTS), (IN_LINES + IN_CALLS, TEXT_SELFTESTS), (IN_CONVERSIONS, CONVERSION_SELFTESTS)):
         for file, old, new, error in mutants:
             if fails_selftest(mutated(file, old, new)[SELFTEST], names):
                 passed += 1
@@ -1131,6 +1213,7 @@ def main():
                 print("FAILED: %s: not noticed by the self-test" % error)
     print(told("lines", needed))
     print(told("texts", texts_needed))
+    print(told("texts to convert", conversions_needed))
     print("%d passed, %d failed" % (passed, failed))
     return 1 if failed else 0
 

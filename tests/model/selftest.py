@@ -1345,6 +1345,149 @@ def test_text_calls():
         check("an area of %d for a good text" % size, read(text, size), (2, blank, b"\xEE" * size))
 
 
+# A card of the shelves, and below it what it becomes. 3F00 stands in waiting bytes and in contents too.
+SHELVED = """\
+000102030405060708090A0B0C0D0E0F	128	127
+3837363534333231	5	0
+313233343536	3	3
+0	0	1	A102	00112233	1	3F00FF
+A101	2E02024001	1	0
+00010000
+A102	2800210040	0	0
+3F000000000000000000000000000000000000000000000000000000000000FF
+EE
+A103	2C00040F00	0	0
+00000000
+"""
+CONVERTED = """\
+000102030405060708090A0B0C0D0E0F	128	127
+3837363534333231	5	0
+313233343536	3	3
+0	0	1	A102	00112233	1	3F00FF	3F00
+A101	2E02024001	1	0	3F00
+00010000
+A102	2800210040	0	0	3F00
+3F000000000000000000000000000000000000000000000000000000000000FF
+EE
+A103	2C00040F00	0	0	3F00
+00000000
+"""
+
+
+def test_text_conversions():
+    def converted(convert, text, room):
+        """The outcome, the count, and the buffer, of which the first bytes may be written and the others stay."""
+        buffer = bytearray(b"\xEE" * room)
+        outcome, count = convert(text.encode("latin-1"), buffer)
+        check("nothing past the count", bytes(buffer[count:]), b"\xEE" * (room - count))
+        return outcome, buffer[:count].decode("latin-1")
+
+    def outcomes(convert, text):
+        """With no room, room for a byte, some, and enough for every card: a text that is refused is so whatever the room."""
+        return [converted(convert, text, room) for room in (0, 1, len(text) - 7, 9518)]
+
+    new_card = "".join(CONVERTED.splitlines(True)[:3]) + "0\t0\t1\t-\t-\t0\t-\t3F00\n"
+    for name, old, new in (
+            ("shelved", SHELVED, CONVERTED), ("the example", LINED.replace("\t3F00\n", "\n"), LINED),
+            ("no file", new_card.replace("\t3F00", ""), new_card)):
+        for convert, text, expected in ((texts.to_new, old, new), (texts.to_old, new, old)):
+            size = len(expected)
+            for room in (size, size + 1, 9518, 9519):
+                check("%s: converted" % name, converted(convert, text, room), (0, expected))
+            for room in (0, 1, 2, size // 2, size - 1):
+                check("%s: a buffer that is too short" % name, converted(convert, text, room), (10, ""))
+        check("%s: back and forth" % name, converted(texts.to_old, converted(texts.to_new, old, 9518)[1], 9518), (0, old))
+        check("%s: forth and back" % name, converted(texts.to_new, converted(texts.to_old, new, 9518)[1], 9518), (0, new))
+        read, contents = texts.from_text(new.encode())
+        was, contents_before = texts.from_text(old.encode(), texts.OLD)
+        check("%s: the card of the new text" % name, (snapshot(read), contents), (snapshot(was), contents_before))
+        check("%s: all in the root" % name, [read.folder] + [file.folder for file in read.files], [cards.ROOT] * (1 + len(read.files)))
+        check("%s: no directory" % name, read.folders, [])
+
+    def with_line(text, number, new):
+        lines = text.splitlines()
+        lines[number - 1:number] = new
+        return text_of_lines(lines)
+
+    session, file = SHELVED.splitlines()[3], SHELVED.splitlines()[4]
+    directory = "5101\t01"
+    for name, text in (
+            ("nothing", ""), ("a newline", "\n"), ("the new form", CONVERTED), ("firms", FIRMS), ("no last newline", SHELVED[:-1]),
+            ("a newline more", SHELVED + "\n"), ("twice", SHELVED * 2), ("CR LF", SHELVED.replace("\n", "\r\n")),
+            ("the session's line with the root", with_line(SHELVED, 4, [session + "\t3F00"])),
+            ("the session's line with no directory", with_line(SHELVED, 4, [session + "\t-"])),
+            ("the session's line with an empty field", with_line(SHELVED, 4, [session + "\t"])),
+            ("the session's line with a directory", with_line(SHELVED, 4, [session + "\t5101"])),
+            ("the session's line with a directory that is there", with_line(SHELVED, 4, [session + "\t5101", directory])),
+            ("a file's line with the root", with_line(SHELVED, 5, [file + "\t3F00"])),
+            ("a file's line with a directory", with_line(SHELVED, 5, [file + "\t5101"])),
+            ("files' lines with the root, and not the session's", with_line(CONVERTED, 4, [session])),
+            ("a directory's line", with_line(SHELVED, 4, [session, directory])),
+            ("a directory's line at the end", SHELVED + directory + "\n"),
+            ("the new form with a directory's line", with_line(CONVERTED, 4, [session + "\t3F00", directory])),
+            ("a limit of 129", SHELVED.replace("128\t127", "129\t127")),
+            ("a right with tries gone", with_line(SHELVED, 3, ["313233343536\t3\t2"])),
+            ("a current file that is not there", SHELVED.replace("A102\t00112233", "A104\t00112233")),
+            ("an SFI twice", SHELVED.replace("A103", "B102")), ("before R-6", with_line(SHELVED, 4, ["0\t0\t1\tA102\t00112233"]))):
+        check("to new, %s" % name, outcomes(texts.to_new, text), [(11, "")] * 4)
+    for name, text in (
+            ("nothing", ""), ("a newline", "\n"), ("the old form", SHELVED), ("no last newline", CONVERTED[:-1]),
+            ("a newline more", CONVERTED + "\n"),
+            ("the session's line without a directory", with_line(CONVERTED, 4, [session])),
+            ("a file's line without a directory", with_line(CONVERTED, 5, [file])),
+            ("a directory on the session's line that is not there", with_line(CONVERTED, 4, [session + "\t5101"])),
+            ("a directory on a file's line that is not there", with_line(CONVERTED, 5, [file + "\t5101"])),
+            ("a limit of 129", CONVERTED.replace("128\t127", "129\t127")), ("an SFI twice", CONVERTED.replace("A103", "B102")),
+            # 11 comes before 13.
+            ("firms, and a limit of 129", FIRMS.replace("\t128\t", "\t129\t", 1)), ("firms, and no last newline", FIRMS[:-1]),
+            ("a directory with a bad right", with_line(CONVERTED, 4, [session + "\t3F00", "5101\t02"])),
+            ("a directory with a root file's FID", with_line(CONVERTED, 4, [session + "\t3F00", "A101\t01"])),
+            ("a directory behind a file", CONVERTED + directory + "\n"),
+            ("five directories", with_line(CONVERTED, 4, [session + "\t3F00"] + ["510%d\t01" % number for number in range(1, 6)])),
+            ("the old form with a directory's line", with_line(SHELVED, 4, [session, directory]))):
+        check("to old, %s" % name, outcomes(texts.to_old, text), [(11, "")] * 4)
+    # 13 comes before 10.
+    none_current = session.replace("A102", "-")
+    for name, text in (
+            ("firms", FIRMS), ("a directory without files", with_line(CONVERTED, 4, [session + "\t3F00", directory])),
+            ("a directory that is current, without files", with_line(CONVERTED, 4, [none_current + "\t5101", directory])),
+            ("a directory with a file", with_line(with_line(CONVERTED, 5, [file + "\t5101"]), 4, [session + "\t3F00", directory])),
+            ("four directories", with_line(CONVERTED, 4, [session + "\t3F00"] + ["510%d\t01" % number for number in range(1, 5)])),
+            ("a directory and no file", with_line(new_card, 4, ["0\t0\t1\t-\t-\t0\t-\t3F00", directory]))):
+        check("to old, %s" % name, outcomes(texts.to_old, text), [(13, "")] * 4)
+
+
+def lines_in_other_form(text):
+    """The lines of a good text with the root added where the new form has it, or taken away: known by their tabs alone."""
+    made = []
+    for line in text.decode("ascii").splitlines(True):
+        tabs = line.count("\t")
+        if tabs in (6, 3):
+            line = line[:-1] + "\t3F00\n"
+        elif tabs in (7, 4):
+            line = line[:-len("\t3F00\n")] + "\n"
+        made.append(line)
+    return "".join(made).encode("ascii")
+
+
+def test_text_converted():
+    """What was converted, by its lines alone; and back again."""
+    for form, back, due in ((texts.OLD, texts.to_old, (0, 11)), (texts.NEW, texts.to_new, (0, 11, 13))):
+        convert, _ = text_cases.CONVERSIONS[form]
+        seen, other = dict.fromkeys(due, 0), []
+        for kind, text in text_cases.texts_to_convert(generate.Dice(3), 2000, form, []):
+            buffer, again = bytearray(9518), bytearray(len(text))
+            outcome, count = convert(text, buffer)
+            made = bytes(buffer[:count])
+            seen[outcome] += 1
+            if outcome == 0 and (made != lines_in_other_form(text) or back(made, again) != (0, len(text)) or again != text):
+                other.append((kind, text))
+            if outcome != 0 and (count, buffer) != (0, bytearray(9518)):
+                other.append((kind, text))
+        check("converted from the %s form" % form, other[:3], [])
+        check("each is met often, from the %s form" % form, [outcome for outcome in due if seen[outcome] < 100], [])
+
+
 def test_framing():
     session = Session()
     for sent, expected in (
@@ -2131,8 +2274,8 @@ def main():
     for test in (test_cipher, test_example, test_edges, test_errors_that_look_right, test_calls, test_variable_soundness,
                  test_folder_soundness, test_folders, test_folder_rights, test_folder_select, test_folder_sfi, test_folder_limits,
                  test_variable_space, test_variable_records, test_variable_many, test_text_example, test_text_fields,
-                 test_text_folders, test_text_lines, test_text_sizes, test_text_calls, test_text_generated, test_framing, test_files,
-                 test_read_to_end,
+                 test_text_folders, test_text_lines, test_text_sizes, test_text_calls, test_text_generated, test_text_conversions,
+                 test_text_converted, test_framing, test_files, test_read_to_end,
                  test_response, test_rights, test_credentials, test_grammar, test_generated):
         test()
     print("%d passed, %d failed" % (passed, failed))

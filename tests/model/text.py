@@ -1,5 +1,5 @@
-"""Requests R-4 and, for the session line, R-6 of document 02, over the model of the card: a whole card written as lines, and
-read from them, in the new form of R-8 or in the old one.
+"""Requests R-4, R-8 and, for the session line, R-6 of document 02, over the model of the card: a whole card written as lines,
+and read from them, in the new form of R-8 or in the old one; and a text of one form made into one of the other.
 
 The new form is the one that writer and reader use. The old one has no directories and no field that names one: only a card
 without a directory has lines of that form, and all files read from them lie in the root.
@@ -276,23 +276,27 @@ def from_text(text, form=NEW):
 
 
 # ---------------------------------------------------------------------------------------------------------------------
-# The two calls
+# The calls
 # ---------------------------------------------------------------------------------------------------------------------
 
-SHORT_TEXT, BAD_TEXT = 10, 11
+SHORT_TEXT, BAD_TEXT, FOLDER_PRESENT = 10, 11, 13
 
 
-def write(card, area, buffer):
+def put(text, buffer):
     """The outcome, and how many bytes of the text buffer were written. A refusal writes nothing."""
-    if len(area) != cards.AREA_SIZE:
-        return 2, 0
-    if not cards.is_sound(card, area):
-        return 4, 0
-    text = to_text(card, area)
     if len(buffer) < len(text):
         return SHORT_TEXT, 0
     buffer[:len(text)] = text
     return 0, len(text)
+
+
+def write(card, area, buffer):
+    """The outcome and the count, as put has them."""
+    if len(area) != cards.AREA_SIZE:
+        return 2, 0
+    if not cards.is_sound(card, area):
+        return 4, 0
+    return put(to_text(card, area), buffer)
 
 
 def read(area, text):
@@ -304,3 +308,22 @@ def read(area, text):
         return BAD_TEXT, cards.Card()
     card, area[:] = found
     return 0, card
+
+
+def to_new(text, buffer):
+    """An old text made a new one, with every file in the root. The outcome and the count, as put has them."""
+    found = from_text(text, OLD)
+    if found is None:
+        return BAD_TEXT, 0
+    return put(to_text(*found, NEW), buffer)
+
+
+def to_old(text, buffer):
+    """A new text made an old one, only where there is no directory. The outcome and the count, as put has them."""
+    found = from_text(text, NEW)
+    if found is None:
+        return BAD_TEXT, 0
+    card, area = found
+    if card.folders:
+        return FOLDER_PRESENT, 0
+    return put(to_text(card, area, OLD), buffer)

@@ -1,6 +1,7 @@
-"""Cases for the C program texts: cards to write as lines and texts to read, with what the model says of each.
+"""Cases for the C program texts: cards to write as lines, texts to read and texts to convert, with what the model says of each.
 
-It writes the cases of a seed, COUNT changed texts among them.
+It writes the cases of a seed: COUNT changed texts to read, with cards to write, and CONVERSIONS changed texts each way to convert.
+Where one of the two is 0 there are no such cases at all.
 
 A case is a letter and its fields, each four bytes of length, the lowest first, and so many bytes:
 
@@ -11,8 +12,13 @@ A case is a letter and its fields, each four bytes of length, the lowest first, 
     W  text, card, contents                             write it, read it, and go on with both
     L  text, card, contents                             try this card with buffers and areas of all lengths
     T  kind, text, card, contents                       read this text; no card where it is to be refused
+    N  kind, text, outcome, outcome with no room, new   make this old text a new one; no new text where it is to be refused,
+       text, card, contents                             and else the card that it is
+    O  kind, text, outcome, outcome with no room, old   make this new text an old one
+       text, card, contents
+    n, o                                                the same, with text buffers of all lengths near the text's
 
-A card is in the bytes of tests/c/layout.h, and contents are the bytes of its files. The cases depend on seed and count only.
+A card is in the bytes of tests/c/layout.h, and contents are the bytes of its files. The cases depend on seed and counts only.
 """
 
 import argparse
@@ -86,6 +92,21 @@ def text_record(kind, text):
     return record(b"T", kind.encode("ascii"), text, card_bytes(found[0]), contents_of(*found))
 
 
+# The two conversions, by the form of the text that is given, and their letters.
+CONVERSIONS = {texts.OLD: (texts.to_new, b"N"), texts.NEW: (texts.to_old, b"O")}
+ROOM = 65536
+
+
+def conversion_record(kind, text, form, all_rooms=False):
+    convert, letter = CONVERSIONS[form]
+    buffer = bytearray(ROOM)
+    outcome, count = convert(text, buffer)
+    outcomes = bytes((outcome,)), bytes((convert(text, bytearray())[0],))
+    found = texts.from_text(text, form) if outcome == 0 else None
+    card = (card_bytes(found[0]), contents_of(*found)) if found else (b"", b"")
+    return record(letter.lower() if all_rooms else letter, kind.encode("ascii"), text, *outcomes, bytes(buffer[:count]), *card)
+
+
 # ---------------------------------------------------------------------------------------------------------------------
 # Scripts
 # ---------------------------------------------------------------------------------------------------------------------
@@ -146,8 +167,8 @@ class Draft:
         self.files = files
 
     @classmethod
-    def of_text(cls, text):
-        card, area = texts.from_text(text)
+    def of_text(cls, text, form=texts.NEW):
+        card, area = texts.from_text(text, form)
         return cls(card, [(file, bytes(area[file.start:file.start + file.extent])) for file in card.files])
 
     def copied(self):
@@ -166,12 +187,13 @@ class Draft:
     def credentials(self):
         return self.card.device, self.card.admin, self.card.user
 
-    def text(self):
+    def text(self, form=texts.NEW):
+        """Its lines. Where there are folders these have lines in either form, and so the old one is none."""
         parts = [texts.credential_line(credential) for credential in self.credentials]
-        parts.append(texts.session_line(self.card))
+        parts.append(texts.session_line(self.card, form))
         parts += [texts.folder_line(folder) for folder in self.card.folders]
         for file, contents in self.files:
-            parts += (texts.file_line(file), texts.content_lines(contents))
+            parts += (texts.file_line(file, form), texts.content_lines(contents))
         return b"".join(parts)
 
     def room(self):
@@ -248,8 +270,8 @@ def any_fid(dice, sfi):
     return dice.pick((0x0000, 0x0100, 0xFF00, dice.below(256) << 8)) | dice.below(8) << 5 | sfi
 
 
-def random_card(dice):
-    """The text of any sound card, whether commands lead to it or not. Mostly a short one."""
+def random_card(dice, has_folders=True):
+    """The text of any sound card, whether commands lead to it or not. Mostly a short one. It may be one without folders."""
     card = cards.Card()
     card.device, card.admin, card.user = [
         cards.Credential(value, dice.pick((1, 2, 3, 9, 10, 99, 100, 127, 128)))
@@ -263,7 +285,7 @@ def random_card(dice):
     if card.mode == cards.FETCHED:
         card.waiting = dice.bytes(dice.weighted((
             (0, 4), (1, 1), (dice.between(2, 40), 3), (dice.between(41, 254), 1), (255, 1), (256, 1))))
-    for _ in range(dice.weighted(((0, 4), (1, 4), (2, 4), (3, 1), (4, 2)))):
+    for _ in range(dice.weighted(((0, 4), (1, 4), (2, 4), (3, 1), (4, 2))) if has_folders else 0):
         fid = any_fid(dice, dice.between(1, 30))
         if all(folder.fid != fid for folder in card.folders):
             draft.add_folder(fid, dice.weighted(generate.GOOD_RIGHTS))
@@ -332,9 +354,10 @@ LIKELY = b"\t\t\n\n00123456789ABCDEFabcdef--  \r\x00+.,xGg/:@`\x0b\x0c\x7f\x80\x
 class Source:
     """A text to be changed, and the texts of other cards."""
 
-    def __init__(self, text, others):
+    def __init__(self, text, others, form=texts.NEW):
         self.text = text
         self.others = others
+        self.form = form
         self.lines = text.split(b"\n")[:-1]
         self.draft = None
 
@@ -344,7 +367,7 @@ class Source:
     def new_draft(self):
         """The card of the text, to be changed."""
         if self.draft is None:
-            self.draft = Draft.of_text(self.text)
+            self.draft = Draft.of_text(self.text, self.form)
         return self.draft.copied()
 
     def numbers(self):
@@ -353,7 +376,8 @@ class Source:
 
     def files(self):
         """The lines of files, contents apart."""
-        return [place for place, line in enumerate(self.lines) if line.count(b"\t") == 4]
+        tabs = 4 if self.form == texts.NEW else 3
+        return [place for place, line in enumerate(self.lines) if line.count(b"\t") == tabs]
 
     def folders(self):
         """The lines of folders."""
@@ -368,6 +392,11 @@ class Source:
 
     def field(self, place, field):
         return self.lines[place].split(b"\t")[field]
+
+    def own_fields(self, place):
+        """The fields of the session's line or a file's, without the folder that it ends with in the new form."""
+        fields = self.lines[place].split(b"\t")
+        return fields[:-1] if self.form == texts.NEW else fields
 
     def any_line(self, dice):
         """Lines with several fields come as often as contents do, though these are more."""
@@ -473,24 +502,51 @@ def fids_near(dice, source):
 def other_home(dice, source):
     """Another folder at the end of the session's line or a file's, or none."""
     place = dice.pick([3, 3] + source.files() * 2)
-    field = source.lines[place].count(b"\t")
+    own = source.own_fields(place)
     if dice.chance(0.15):
-        return source.with_field(place, field)
+        return source.with_line(place, b"\t".join(own))
     if dice.chance(0.1):
-        return source.with_field(place, field, source.field(place, field), fids_near(dice, source))
-    return source.with_field(place, field, fids_near(dice, source))
+        return source.with_line(place, source.lines[place] + b"\t" + fids_near(dice, source))
+    return source.with_line(place, b"\t".join(own + [fids_near(dice, source)]))
 
 
 def all_homes(dice, source):
     """Every line that names a folder changed alike: all in the root, all in one folder, or without the field, as in the old form."""
-    new = dice.pick(([], [], [b"3F00"], [b"3F00"], [b"-"], [fids_near(dice, source)], [source.field(3, 7)]))
+    new = dice.pick(([], [], [b"3F00"], [b"3F00"], [b"-"], [fids_near(dice, source)], [source.field(3, -1)]))
     lines = list(source.lines)
     places = source.files() if dice.chance(0.3) else [3] + source.files()
     for place in places:
-        lines[place] = b"\t".join(lines[place].split(b"\t")[:-1] + new)
+        lines[place] = b"\t".join(source.own_fields(place) + new)
     if dice.chance(0.5):
         lines = [line for place, line in enumerate(lines) if place not in source.folders()]
     return joined(lines)
+
+
+def in_other_form(source, places):
+    """The text with these lines, the session's or files', as they are in the other form, in the root."""
+    lines = list(source.lines)
+    for place in places:
+        lines[place] = b"\t".join(source.own_fields(place) + ([] if source.form == texts.NEW else [b"3F00"]))
+    return lines
+
+
+def other_form(dice, source):
+    """The whole text in the other form, with the lines of folders or without."""
+    lines = in_other_form(source, [3] + source.files())
+    if dice.chance(0.7):
+        lines = [line for place, line in enumerate(lines) if place not in source.folders()]
+    return joined(lines)
+
+
+def line_of_other_form(dice, source):
+    """The session's line alone, all but that, or one file's, in the other form."""
+    files = source.files()
+    return joined(in_other_form(source, dice.pick(([3], files, [dice.pick(files)], [3, dice.pick(files)]) if files else ([3],))))
+
+
+def another_card(dice, source):
+    """The text of another card, in either form."""
+    return source.another(dice)
 
 
 def other_folder(dice, source):
@@ -1123,14 +1179,25 @@ CARD_CHANGES = (
     ("the area full, or more", full_area, 2),
     ("other files", other_files, 6),
 )
-# Each as often as it weighs.
-CHANGES = [(name, change, is_card) for table, is_card in ((TEXT_CHANGES, False), (CARD_CHANGES, True))
-           for name, change, weight in table for _ in range(weight)]
+FORM_CHANGES = (
+    ("the other form", other_form, 24),
+    ("lines of the other form", line_of_other_form, 24),
+    ("the text of another card", another_card, 12),
+)
 
 
-def changed_text(dice, source):
+def weighed(*tables):
+    """The changes of these tables, each as often as it weighs, and whether it is one of a card."""
+    return [(name, change, table is CARD_CHANGES) for table in tables for name, change, weight in table for _ in range(weight)]
+
+
+CHANGES = weighed(TEXT_CHANGES, CARD_CHANGES)
+CHANGES_TO_CONVERT = weighed(TEXT_CHANGES, CARD_CHANGES, FORM_CHANGES)
+
+
+def changed_text(dice, source, changes=CHANGES):
     """A text made from another one, and the name of the change."""
-    name, change, is_card = dice.pick(CHANGES)
+    name, change, is_card = dice.pick(changes)
     if not is_card:
         return name, change(dice, source)
     draft = source.new_draft()
@@ -1139,7 +1206,15 @@ def changed_text(dice, source):
         # Two changes at once, of which one may be good.
         name = "two changes of the card"
         dice.pick(CARD_CHANGES)[1](dice, draft)
-    return name, draft.text()
+    return name, draft.text(source.form)
+
+
+def really_changed(dice, source, changes=CHANGES):
+    """The same, and not the text that it was made from, unless that is the change."""
+    name, text = changed_text(dice, source, changes)
+    while text == source.text and name != UNCHANGED:
+        name, text = changed_text(dice, source, changes)
+    return name, text
 
 
 def changed_texts(dice, count, kept):
@@ -1153,10 +1228,50 @@ def changed_texts(dice, count, kept):
                 (random_card(dice), 75), (dice.pick(kept) if kept else FRESH, 20), (dice.pick(edges), 2)))
             others[dice.below(len(others))] = text
             source = Source(text, others)
-        name, text = changed_text(dice, source)
-        while text == source.text and name != UNCHANGED:
-            name, text = changed_text(dice, source)
-        yield name, text
+        yield really_changed(dice, source)
+
+
+def has_folders(text):
+    return bool(texts.from_text(text)[0].folders)
+
+
+def in_form(text, form):
+    """The lines of that card in that form; in the old one it has no folder."""
+    return texts.to_text(*texts.from_text(text), form)
+
+
+def edges_to_convert(form):
+    """The cards at the edges that have lines of that form, and the longest text of one without folders."""
+    known = edge_cards()
+    home = b"\tFF01\n"
+    longest = known[-1].replace(b"\tFF04\n", home)
+    longest = b"".join([line for line in longest.replace(home, b"\t3F00\n").splitlines(True) if line.count(b"\t") != 1])
+    return [in_form(text, form) for text in known + (longest,) if form == texts.NEW or not has_folders(text)]
+
+
+def texts_to_convert(dice, count, form, kept):
+    """So many changed texts that are given as ones of that form, as changed_texts has them. Of the new ones more than half have no
+    folder, since only these can be converted."""
+    edges = edges_to_convert(form)
+    kept = [text for text in kept if form == texts.NEW or not has_folders(text)]
+
+    def any_card():
+        may_have_folders = form == texts.NEW and dice.chance(0.6)
+        return dice.weighted((
+            (random_card(dice, may_have_folders), 75), (dice.pick(kept) if kept else FRESH, 20), (dice.pick(edge_cards()), 2)))
+
+    others = [random_card(dice, dice.chance(0.5)) for _ in range(20)]
+    others += [in_form(random_card(dice, False), texts.OLD) for _ in range(20)]
+    for number in range(count):
+        turn, rest = divmod(number, CHANGES_A_CARD)
+        if rest == 0:
+            text = edges[turn] if turn < len(edges) else None
+            while text is None:
+                text = any_card()
+                text = None if form == texts.OLD and has_folders(text) else in_form(text, form)
+            others[dice.below(len(others))] = text
+            source = Source(text, others, form)
+        yield really_changed(dice, source, CHANGES_TO_CONVERT)
 
 
 def random_texts(dice):
@@ -1172,8 +1287,21 @@ def random_texts(dice):
         yield (longest * 8)[:length]
 
 
-def cases(seed, count, put):
-    """Puts all cases of a seed."""
+def conversions(seed, count, kept, put):
+    """Puts so many changed texts each way to convert, and before them those at the edges, each with buffers of all lengths."""
+    for form in (texts.OLD, texts.NEW):
+        dice = generate.Dice(2 * seed + (form == texts.NEW) ^ 0xC0DE)
+        for text in edges_to_convert(form):
+            put(conversion_record("at an edge", text, form, all_rooms=True))
+            put(conversion_record("at an edge, and cut off", text[:-1], form, all_rooms=True))
+        for text in random_texts(dice):
+            put(conversion_record("random bytes", text, form))
+        for kind, text in texts_to_convert(dice, count, form, kept):
+            put(conversion_record(kind, text, form))
+
+
+def texts_and_cards(seed, count, put):
+    """Puts scripts, cards and so many changed texts; the texts of some cards are kept."""
     dice = generate.Dice(seed)
     kept = []
     lines, number = count // SHARE_OF_LINES, 0
@@ -1185,8 +1313,17 @@ def cases(seed, count, put):
         put(card_record(b"L", *texts.from_text(text)))
     for text in random_texts(dice):
         put(text_record("random bytes", text))
-    for kind, text in changed_texts(dice, count, [text for text in kept if len(text) < 3000]):
+    kept = [text for text in kept if len(text) < 3000]
+    for kind, text in changed_texts(dice, count, kept):
         put(text_record(kind, text))
+    return kept
+
+
+def cases(seed, count, converted, put):
+    """Puts all cases of a seed."""
+    kept = texts_and_cards(seed, count, put) if count > 0 else []
+    if converted > 0:
+        conversions(seed, converted, kept, put)
 
 
 def main():
@@ -1194,8 +1331,9 @@ def main():
         prog="python3 tests/model/text_cases.py", description=__doc__, formatter_class=argparse.RawDescriptionHelpFormatter)
     parser.add_argument("seed", metavar="SEED", type=generate.number)
     parser.add_argument("count", metavar="COUNT", type=generate.number)
+    parser.add_argument("converted", metavar="CONVERSIONS", type=generate.number)
     asked = parser.parse_args()
-    cases(asked.seed, asked.count, sys.stdout.buffer.write)
+    cases(asked.seed, asked.count, asked.converted, sys.stdout.buffer.write)
 
 
 if __name__ == "__main__":

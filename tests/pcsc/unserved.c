@@ -54,3 +54,17 @@ uint8_t limpet_from_text(struct limpet_card *card, uint8_t *area, size_t area_le
     (void)card, (void)area, (void)area_len, (void)text, (void)text_len;
     return getenv("TAKES_ANY_TEXT") == NULL ? LIMPET_BAD_TEXT : LIMPET_OK;
 }
+
+uint8_t limpet_text_to_new(const uint8_t *old, size_t old_len, uint8_t *text, size_t text_len, size_t *text_count)
+{
+    (void)old, (void)old_len, (void)text, (void)text_len;
+    *text_count = 0;
+    return LIMPET_BAD_TEXT;
+}
+
+uint8_t limpet_text_to_old(const uint8_t *text_given, size_t given_len, uint8_t *text, size_t text_len, size_t *text_count)
+{
+    (void)text_given, (void)given_len, (void)text, (void)text_len;
+    *text_count = 0;
+    return getenv("TAKES_ANY_TEXT") == NULL ? LIMPET_BAD_TEXT : LIMPET_DIRECTORY;
+}

@@ -446,10 +446,11 @@ def kept_later():
         with connected("--card", kept.path) as (line, _):
             check("waiting bytes of a file are gone in the reader", line.ask(GET_RESPONSE) == "6985")
             check("and in the file", kept.read() == due, kept.read())
-    for name, old in (("the modes", "0\t0\t0\t-\t-"), ("the directories", "0\t0\t0\t-\t-\t0\t-")):
+    says = "is a card in the old form, of before there were directories; this converts it: tools/card convert --to-new "
+    for name, old, why in (("the modes", "0\t0\t0\t-\t-", "not the lines of a sound card"), ("the directories", "0\t0\t0\t-\t-\t0\t-", says)):
         with kept_card(new_card().replace("0\t0\t0\t-\t-\t0\t-\t3F00", old)) as kept:
             before = kept.read()
-            refused(f"--card with a file from before {name}", 1, "not the lines of a sound card", "--card", kept.path)
+            refused(f"--card with a file from before {name}", 1, why, "--card", kept.path)
             check(f"a file from before {name} is left as it is", kept.read() == before, kept.read())
 
 

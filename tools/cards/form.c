@@ -4,7 +4,8 @@
 
 enum { LINE_BYTES = 32, LONGEST_RECORD = 178, HIGHEST_SHORT_NUMBER = 30, HIGHEST_LIMIT = 128, MOST_WAITING = 256 };
 enum { CREDENTIAL_FIELDS = 3, SESSION_FIELDS = 8, FOLDER_FIELDS = 2, FILE_FIELDS = 5, MOST_FIELDS = 8 };
-enum { SESSION_FIELDS_OF_6_AND_7 = 5, SESSION_FIELDS_OF_8 = 7 }; /* of earlier versions of the library */
+enum { OLD_SESSION_FIELDS = SESSION_FIELDS - 1, OLD_FILE_FIELDS = FILE_FIELDS - 1 }; /* without a directory at their end */
+enum { SESSION_FIELDS_OF_6_AND_7 = 5 }; /* of earlier versions of the library */
 
 /* What is left of the text, and the fields of the line that was read last. */
 struct reading {
@@ -175,15 +176,13 @@ static bool read_response(struct reading *r)
     return r->form->mode == 1 || r->form->waiting == 0 || fail(r, "bytes wait, and the mode is 0");
 }
 
-/* Of an earlier version nothing is known but that its session had so many fields. */
+/* Their number tells the form. Of an earlier version nothing is known but that its session had so many. */
 static bool has_session_fields(struct reading *r)
 {
-    if (r->count == SESSION_FIELDS_OF_8)
-        return fail(r, "it has 7 fields and not 8: the file may be one of version 8, before there were directories, "
-                       "which this version cannot read yet");
     if (r->count == SESSION_FIELDS_OF_6_AND_7)
         return fail(r, "it has 5 fields and not 8: the file may be one of version 6 or 7, which this version cannot read");
-    return has_fields(r, SESSION_FIELDS);
+    r->form->form = r->count == OLD_SESSION_FIELDS ? OLD_FORM : NEW_FORM;
+    return r->form->form == OLD_FORM || has_fields(r, SESSION_FIELDS);
 }
 
 /* Whether the current file and directory exist is seen when all are read. */
@@ -197,7 +196,8 @@ static bool read_session(struct reading *r)
         return fail(r, "the challenge is neither 4, 8 or 16 bytes in upper-case hex nor -");
     if (!read_response(r))
         return false;
-    return fid_of(r->fields[7], &r->form->folder) || fail(r, "the current directory is not four upper-case hex digits");
+    return r->form->form == OLD_FORM || fid_of(r->fields[7], &r->form->folder)
+        || fail(r, "the current directory is not four upper-case hex digits");
 }
 
 /* ------------------------------------------------------------ directories */
@@ -364,7 +364,8 @@ static bool read_file_fields(struct reading *r, struct form_file *f)
     f->write = made.at[4];
     if (!read_number(r->fields[2], &f->held) || !read_number(r->fields[3], &f->newest))
         return fail(r, "records held (or used bytes) and newest place are not numbers without leading zeros");
-    return fid_of(r->fields[4], &f->folder) || fail(r, "its directory is not four upper-case hex digits");
+    return r->form->form == OLD_FORM || fid_of(r->fields[4], &f->folder)
+        || fail(r, "its directory is not four upper-case hex digits");
 }
 
 /* Where one is among the records of a 2C file: how many bytes of the current one are still to come. */
@@ -427,10 +428,10 @@ static bool read_contents(struct reading *r, struct form_file *f)
 /* Of the line that was taken, and those of its contents. */
 static bool read_file(struct reading *r)
 {
-    struct form_file f = { .fid = 0 };
+    struct form_file f = { .fid = 0, .folder = ROOT };
     const char *wrong;
 
-    if (!has_fields(r, FILE_FIELDS) || !read_file_fields(r, &f))
+    if (!has_fields(r, r->form->form == NEW_FORM ? FILE_FIELDS : OLD_FILE_FIELDS) || !read_file_fields(r, &f))
         return false;
     wrong = wrong_file(r->form, &f);
     if (wrong != NULL)
@@ -441,11 +442,20 @@ static bool read_file(struct reading *r)
     return true;
 }
 
+static bool is_of_session_form(struct reading *r)
+{
+    if (r->form->form == OLD_FORM && (r->count == FOLDER_FIELDS || r->count == FILE_FIELDS))
+        return fail(r, "it is a line of the new form, and the 7 fields of the session's line are of the old form");
+    if (r->form->form == NEW_FORM && r->count == OLD_FILE_FIELDS)
+        return fail(r, "it is a line of the old form, and the 8 fields of the session's line are of the new form");
+    return true;
+}
+
 /* The number of its fields tells a directory's line from a file's. */
 static bool read_folder_or_file(struct reading *r)
 {
     r->form->of = NO_FILE;
-    if (!take_line(r, "file"))
+    if (!take_line(r, "file") || !is_of_session_form(r))
         return false;
     return r->count == FOLDER_FIELDS ? read_folder(r) : read_file(r);
 }
@@ -477,7 +487,7 @@ bool read_form(const struct card_text *t, struct form *f)
     struct reading r = { .rest = { t->at, t->len }, .too_long = t->len > LIMPET_TEXT_SIZE, .form = f };
     bool good = true;
 
-    *f = (struct form){ .current = NO_FILE, .folder = ROOT, .of = NO_FILE };
+    *f = (struct form){ .form = NEW_FORM, .current = NO_FILE, .folder = ROOT, .of = NO_FILE };
     for (size_t i = 0; good && i < CREDENTIALS; i++)
         good = read_credential(&r, i);
     good = good && read_session(&r);

@@ -1,6 +1,6 @@
 /*
  * A card's file as docs/CARD-FILE.md describes it, read by a plain parser: for people, who want to know what is in it, and which
- * line is wrong. Whether it is a card is the library's to say and not this parser's.
+ * line is wrong. Whether it is a card, and in which form, is the library's to say and not this parser's.
  *
  * No key, PIN, challenge, waiting bytes or contents are kept, so that nothing can print them.
  */
@@ -35,6 +35,7 @@ struct form_file {
 };
 
 struct form {
+    enum text_form form; /* which the session's line has, by the number of its fields */
     struct form_credential credentials[CREDENTIALS];
     int current;             /* the FID of the current file, or NO_FILE */
     int folder;              /* the FID of the current directory */

@@ -1,10 +1,11 @@
-/* Cards kept in files: made, run, shown and checked. --help says how it is called. */
+/* Cards kept in files: made, run, shown, checked and converted. --help says how it is called. */
 #include <signal.h>
 #include <stdio.h>
 #include <stdlib.h>
 #include <string.h>
 
 #include "card.h"
+#include "convert.h"
 #include "ends.h"
 #include "form.h"
 #include "process.h"
@@ -25,6 +26,7 @@ static const char usage[] =
     "       tools/card run CARD SCRIPT\n"
     "       tools/card show CARD\n"
     "       tools/card check CARD\n"
+    "       tools/card convert --to-new|--to-old [--into FOLDER] [--dry-run] CARD...\n"
     "\n"
     "CARD is a file with a whole card in it: key, PINs, tries, session, directories and\n"
     "files. docs/CARD-FILE.md says what stands where. Key and PINs stand there as they are,\n"
@@ -52,24 +54,34 @@ static const char usage[] =
     "       An ISSUE line ends the run, and what was answered is stored: what follows it is\n"
     "       for another card, and could block the PINs of this one. Two runs on one card\n"
     "       wait for each other, up to 5 seconds.\n"
-    "show   prints tries left, mode, session, free space, and the root and each\n"
+    "show   prints form, tries left, mode, session, free space, and the root and each\n"
     "       directory with its files; which of them are current stands there. No key, PIN,\n"
     "       challenge or contents, and of waiting bytes only how many there are.\n"
     "check  says whether the file is accepted, and where not, at which line and why, as\n"
-    "       far as that can be told. A card of version 8 or earlier is refused: it was\n"
-    "       written before there were directories (docs/CARD-FILE.md).\n"
+    "       far as that can be told; and which form it has. A card that was written before\n"
+    "       there were directories has the old form (docs/CARD-FILE.md): show and check\n"
+    "       take it, run does not.\n"
+    "convert makes the new form of cards in the old one (--to-new), or the old form of\n"
+    "       cards without directories (--to-old). Each file is replaced; with --into it\n"
+    "       stays, and its card is put into FOLDER under the same name, where no file is\n"
+    "       ever overwritten. What is wrong with one file keeps no other from it: a table\n"
+    "       tells of each what was done, or why not. --dry-run prints it and writes nothing.\n"
+    "       Where it was ended early, calling it again does the rest.\n"
     "\n"
     "SCRIPT may be a pipe, and - is standard input. CARD is replaced as a whole, so\n"
     "whatever goes wrong it holds the card of before or the new one.\n"
     "\n"
     "Status: 0 when all was done; 1 for an error: CARD is as it was, but for what run has\n"
-    "answered, unless the message says otherwise; 1 from check where CARD is refused; 2 for\n"
-    "bad usage; 3 from run where the card was stored, but some lines were not run (their\n"
-    "outcome is not 0). Ctrl-C, SIGTERM and SIGHUP end run after the present line.\n"
+    "answered and convert has done, unless the message says otherwise; 1 from check where\n"
+    "CARD is refused, and from convert where one was refused or failed; 2 for bad usage;\n"
+    "3 from run where the card was stored, but some lines were not run (their outcome is\n"
+    "not 0). Ctrl-C, SIGTERM and SIGHUP end run after the present line, and convert after\n"
+    "the present file.\n"
     "\n"
     "  tools/card new box.card - 128 - 5 - 3         asks for the key and the PINs\n"
     "  tools/card new box.card examples/box.script   the box of docs/STANDBY.md\n"
-    "  tools/card show box.card\n";
+    "  tools/card show box.card\n"
+    "  tools/card convert --to-new --dry-run shelf/*.card\n";
 
 static int show_usage(void)
 {
@@ -151,7 +163,7 @@ static int new_card(int words, char **word)
     return good ? EXIT_SUCCESS : EXIT_FAILURE;
 }
 
-/* ------------------------------------------------------------ run, show, check */
+/* ------------------------------------------------------------ run, show, check, convert */
 
 /* Opens a file that has to be there. */
 static bool open_card(struct store *s, const char *path, enum use use)
@@ -166,11 +178,11 @@ static bool open_card(struct store *s, const char *path, enum use use)
 }
 
 /* Where a signal came the program ends by it, with nothing left to be done. */
-static void end_by_signal(void)
+static void end_by_signal(const char *done)
 {
     card_wipe();
     if (is_to_end())
-        say("ended by a signal; what was answered is stored");
+        say("ended by a signal; %s", done);
     let_ends();
 }
 
@@ -191,14 +203,25 @@ static int run_card(int words, char **word)
     if (store_load(&s))
         status = statuses[run_on_card(&s, word[1])];
     store_close(&s);
-    end_by_signal();
+    end_by_signal("what was answered is stored");
     return status;
+}
+
+/* By the library alone. The old form is for show and check to tell of, and for convert. */
+static bool is_old(const struct store *s)
+{
+    bool old = card_text_has(OLD_FORM, &s->text);
+
+    if (old)
+        store_warn_of_others(s);
+    return old;
 }
 
 static int show_file(int words, char **word)
 {
     struct store s;
     struct form f;
+    bool old;
     int status = EXIT_FAILURE;
 
     if (words != 1)
@@ -206,8 +229,9 @@ static int show_file(int words, char **word)
     if (!open_card(&s, word[0], TO_LOOK))
         return EXIT_FAILURE;
     store_warn_of_leftovers(&s);
-    if (store_load(&s)) {
-        if (read_form(&s.text, &f)) {
+    old = is_old(&s);
+    if (old || store_load(&s)) {
+        if (read_form(&s.text, &f) && f.form == (old ? OLD_FORM : NEW_FORM)) {
             show_card(&f);
             status = printed(EXIT_SUCCESS);
         } else {
@@ -222,18 +246,32 @@ static int check_file(int words, char **word)
 {
     struct store s;
     struct form f;
-    bool accepted;
+    enum verdict verdict;
 
     if (words != 1)
         return bad_usage("check takes a card file and nothing else");
     if (!open_card(&s, word[0], TO_LOOK))
         return EXIT_FAILURE;
     store_warn_of_leftovers(&s);
-    accepted = store_has_card(&s);
+    verdict = is_old(&s) ? OLD_CARD : store_has_card(&s) ? NEW_CARD : REFUSED_CARD;
     read_form(&s.text, &f);
-    show_verdict(word[0], accepted, &f);
+    show_verdict(word[0], verdict, &f);
     store_close(&s);
-    return printed(accepted ? EXIT_SUCCESS : EXIT_FAILURE);
+    return printed(verdict == REFUSED_CARD ? EXIT_FAILURE : EXIT_SUCCESS);
+}
+
+static int convert_cards(int words, char **word)
+{
+    struct conversion c;
+    int status;
+
+    if (!read_conversion(words, word, &c))
+        return show_usage();
+    signal(SIGPIPE, SIG_IGN); /* a table that nobody takes is an error like others */
+    hold_ends();
+    status = printed(convert_files(&c) ? EXIT_SUCCESS : EXIT_FAILURE);
+    end_by_signal("every file is whole, and the table has all that were done");
+    return status;
 }
 
 /* ------------------------------------------------------------ which */
@@ -246,7 +284,7 @@ static bool asks_for_help(const char *word)
 static int no_part(int argc, char **argv)
 {
     if (argc < 2)
-        return bad_usage("nothing says what to do: new, run, show or check");
+        return bad_usage("nothing says what to do: new, run, show, check or convert");
     say(asks_for_help(argv[1]) ? "%s stands alone" : "there is no part %s", argv[1]);
     return show_usage();
 }
@@ -256,7 +294,9 @@ int main(int argc, char **argv)
     static const struct {
         const char *word;
         int (*run)(int words, char **word);
-    } parts[] = { { "new", new_card }, { "run", run_card }, { "show", show_file }, { "check", check_file } };
+    } parts[] = {
+        { "new", new_card }, { "run", run_card }, { "show", show_file }, { "check", check_file }, { "convert", convert_cards }
+    };
     int status;
 
     process_begin();

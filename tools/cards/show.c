@@ -1,7 +1,10 @@
 #include "show.h"
 
 #include <stdio.h>
+#include <stdlib.h>
 #include <string.h>
+
+#include "say.h"
 
 static const char *plural(unsigned count)
 {
@@ -25,6 +28,11 @@ static void show_credentials(const struct form *f)
             printf(": BLOCKED, %s", way_out(f, i));
         putchar('\n');
     }
+}
+
+static void show_form(const struct form *f)
+{
+    printf("form        %s\n", f->form == NEW_FORM ? "new" : "old, of before there were directories: tools/card convert --to-new");
 }
 
 static void show_mode(const struct form *f)
@@ -159,6 +167,7 @@ static void show_folder(const struct form *f, const char *kind, int fid, uint8_t
 
 void show_card(const struct form *f)
 {
+    show_form(f);
     show_credentials(f);
     show_mode(f);
     show_session(f);
@@ -168,16 +177,41 @@ void show_card(const struct form *f)
         show_folder(f, "directory", f->folders[i].fid, f->folders[i].right);
 }
 
-void show_verdict(const char *path, bool accepted, const struct form *f)
+void tell_wrong(const struct form *f, char *room, size_t size)
 {
-    if (accepted) {
-        printf("%s: accepted\n", path);
-    } else if (f->wrong == NULL) {
+    char of[sizeof " of file 0000"] = "";
+
+    if (f->of != NO_FILE)
+        snprintf(of, sizeof of, "%s %04X", strcmp(f->part, "contents") == 0 ? " of file" : "", (unsigned)f->of & 0xFFFF);
+    snprintf(room, size, "line %zu (%s%s%s): %s", f->line, f->part, of, f->form == OLD_FORM ? ", by the old form" : "", f->wrong);
+}
+
+static void show_refusal(const char *path, const struct form *f)
+{
+    char wrong[LONGEST_SAID];
+
+    if (f->wrong == NULL) {
         printf("%s: refused\n", path);
     } else {
-        printf("%s: refused, at line %zu (%s", path, f->line, f->part);
-        if (f->of != NO_FILE)
-            printf("%s %04X", strcmp(f->part, "contents") == 0 ? " of file" : "", (unsigned)f->of);
-        printf("): %s\n", f->wrong);
+        tell_wrong(f, wrong, sizeof wrong);
+        printf("%s: refused, at %s\n", path, wrong);
     }
+}
+
+static void show_old(const char *path)
+{
+    char *word = shell_word(path);
+
+    printf("%s: accepted, in the old form; this converts it: tools/card convert --to-new %s\n", path, word == NULL ? path : word);
+    free(word);
+}
+
+void show_verdict(const char *path, enum verdict verdict, const struct form *f)
+{
+    if (verdict == REFUSED_CARD)
+        show_refusal(path, f);
+    else if (verdict == OLD_CARD)
+        show_old(path);
+    else
+        printf("%s: accepted, in the new form\n", path);
 }

@@ -277,6 +277,7 @@ build_program() {
     inplace) sources=(tests/c/{inplace,watched,layout,lent}.c reader/lines.c) ;;
     refusals) sources=(tests/c/{refusals,spoiled,areas,groups,cards,watched,layout,lent}.c) ;;
     texts) sources=(tests/c/{texts,watched,layout,lent}.c) ;;
+    conversions) sources=(tests/c/{conversions,lent}.c) ;;
     stack) sources=(tests/c/{stack,play}.c reader/lines.c) ;;
     verifies | blocks | compare) sources=("tests/c/${name%%-*}.c") ;;
     calls) sources=(bench/{calls,measure}.c tests/c/play.c reader/lines.c) ;;
@@ -287,7 +288,8 @@ build_program() {
     esac
     if [[ $name == *-faulty ]]; then
         sources+=(tests/c/faults.c)
-        set -- "$@" -Wl,--wrap=limpet_issue,--wrap=limpet_command,--wrap=limpet_reset,--wrap=limpet_to_text,--wrap=limpet_from_text
+        set -- "$@" -Wl,--wrap=limpet_issue,--wrap=limpet_command,--wrap=limpet_reset,--wrap=limpet_to_text,--wrap=limpet_from_text \
+            -Wl,--wrap=limpet_text_to_new,--wrap=limpet_text_to_old
     fi
     mkdir -p $built
     rm -f "$built/$name" # so that what is run is what was built now

@@ -33,6 +33,12 @@ pub record PlacesText (card : Card) (w : Wrote) (r : ℕ) (card′ : Card) (text
   pub text-is : text′ ≡ w .out
   pub count-is : count′ ≡ w .answer .n
 
+-- a converter's outcome, the text buffer that it leaves, and how many bytes of it are the text
+pub record PlacesConverted (w : Wrote) (r : ℕ) (text′ : List ℕ) (count′ : ℕ) : Type 0 where
+  pub outcome-is : r ≡ w .answer .outcome
+  pub text-is : text′ ≡ w .out
+  pub count-is : count′ ≡ w .answer .n
+
 -- the reader's outcome and card, with the area that it leaves
 pub record PlacesCard (g : Got) (r : ℕ) (card′ : Card) (area′ : List ℕ) : Type 0 where
   pub placed : Placed (g .answer) r card′
@@ -44,4 +50,4 @@ cardSize = size mir
 
 -- the number that tells versions of the card apart: 1 for document 01, and one more for each landing since that changed the card, the cipher or the calls
 abbrev pub version : ℕ
-version = 9
+version = 10

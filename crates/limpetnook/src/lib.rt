@@ -5,14 +5,16 @@ ghost use Rattle.rules.specs.Calls.{issue, command, reset};
 ghost use Rattle.cipher.specs.Call.{Enciphered};
 ghost use Rattle.card.specs.Ordered.{orderOf};
 ghost use Rattle.texts.specs.Text.{new};
-ghost use Rattle.texts.specs.Calls.{toText, fromText};
-ghost use Rattle.limpetnook.specs.Place.{Placed, PlacesIssue, PlacesCommand, PlacesText, PlacesCard, cardSize, version};
+ghost use Rattle.texts.specs.Calls.{toText, fromText, toNew, toOld};
+ghost use Rattle.limpetnook.specs.Place.{Placed, PlacesIssue, PlacesCommand, PlacesText, PlacesConverted, PlacesCard, cardSize, version};
 use card::issue::issue;
 use card::issue::reset;
 use card::step::command;
 use cipher::encipher;
 use rules::Card;
 use texts::calls::from_text;
+use texts::calls::to_new;
+use texts::calls::to_old;
 use texts::calls::to_text;
 
 // No function of the language says how large a value is; the contract does.
@@ -31,7 +33,7 @@ pub extern "C" fn limpet_card_size() -> usize
 pub extern "C" fn limpet_version() -> u32
     ensures { λ r. ⌜ r ≡ version ⌝ }
 {
-    9
+    10
 }
 
 // One block of AES-128.
@@ -121,4 +123,24 @@ pub extern "C" fn limpet_from_text(card: &mut Card, area: &mut [u8], text: &[u8]
     let read = from_text(area, text);
     *card = read.card;
     read.outcome
+}
+
+// An old text, without directories, into a new one.
+#[no_mangle]
+pub extern "C" fn limpet_text_to_new(old: &[u8], text: &mut [u8], count: &mut usize) -> u8
+    ensures { λ r. ⌜ PlacesConverted (toNew (now (old .entry)) (now (text .entry))) r (now (text .exit)) (now (count .exit)) ⌝ }
+{
+    let done = to_new(old, text);
+    *count = done.n;
+    done.outcome
+}
+
+// A new text of a card without a directory into an old one.
+#[no_mangle]
+pub extern "C" fn limpet_text_to_old(given: &[u8], text: &mut [u8], count: &mut usize) -> u8
+    ensures { λ r. ⌜ PlacesConverted (toOld (now (given .entry)) (now (text .entry))) r (now (text .exit)) (now (count .exit)) ⌝ }
+{
+    let done = to_old(given, text);
+    *count = done.n;
+    done.outcome
 }

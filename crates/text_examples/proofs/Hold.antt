@@ -18,7 +18,7 @@ use Rattle.rules.specs.Sound.{goodPin, goodValue, soundValue, soundTries, sound
 use Rattle.digits.specs.Digits.{digitsIn, decimal, hexDigit, hexOf, orDash, value}
 use Rattle.texts.specs.Text.{line, credentialLine, sessionLine, folderLine, folderLines, folderCount, heldOrUsed, fileLine, rows, contents, filesText, credentialLines, text}
 use Rattle.texts.specs.Reading.{skip, pair, hexIn, numberFrom, number, small, triesIn, credentialIn, homeIn, sessionIn, responseIn, fileIn, pairs, pastRow, rowsIn, behind, filesIn, bytesIn, folderIn, foldersIn, laid, foldered, withFiles, foldersRead, filesPart, cardIn, areaIn}
-use Rattle.texts.specs.Calls.{toText, accepted, fromText}
+use Rattle.texts.specs.Calls.{toText, accepted, fromText, converted}
 use Rattle.text_examples.specs.Table.{Row, allHold}
 use Rattle.text_examples.specs.Examples.{documented, states, sizes, counts}
 use Rattle.text_examples.specs.FieldRanges.{every-number, every-byte, every-digit, credentials-written, sessions-written}
@@ -32,7 +32,7 @@ use Rattle.text_examples.specs.Rows.{table, EachHolds}
 
 -- whether rows hold, by computation: to unfold this is to unfold every definition that a row may need
 computed : List Row → Bool
-unfolding allBelow part over count recordLength size goodShape goodRights used startAt extent seek findFid findFolder bytesUsed soundHeld soundUsed partedFile stands past walk parted goodContents apart goodFolder soundFile unusedPlace sfisDiffer unusedFolder soundFolder soundFolders soundDirectory partedArea allOf same goodPin goodValue soundValue soundTries soundCredential soundChallenge soundResponse soundCurrent soundState sound digitsIn decimal hexDigit hexOf orDash value line credentialLine sessionLine folderLine folderLines folderCount heldOrUsed fileLine rows contents filesText credentialLines text skip pair hexIn numberFrom number small triesIn credentialIn homeIn sessionIn responseIn fileIn pairs pastRow rowsIn behind filesIn bytesIn folderIn foldersIn laid foldered withFiles foldersRead filesPart cardIn areaIn toText accepted fromText
+unfolding allBelow part over count recordLength size goodShape goodRights used startAt extent seek findFid findFolder bytesUsed soundHeld soundUsed partedFile stands past walk parted goodContents apart goodFolder soundFile unusedPlace sfisDiffer unusedFolder soundFolder soundFolders soundDirectory partedArea allOf same goodPin goodValue soundValue soundTries soundCredential soundChallenge soundResponse soundCurrent soundState sound digitsIn decimal hexDigit hexOf orDash value line credentialLine sessionLine folderLine folderLines folderCount heldOrUsed fileLine rows contents filesText credentialLines text skip pair hexIn numberFrom number small triesIn credentialIn homeIn sessionIn responseIn fileIn pairs pastRow rowsIn behind filesIn bytesIn folderIn foldersIn laid foldered withFiles foldersRead filesPart cardIn areaIn toText accepted fromText converted
 computed = allHold
 
 pub documented-hold : allHold documented ≡ true

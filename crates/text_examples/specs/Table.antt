@@ -10,7 +10,7 @@ use Rattle.rules.specs.declared.Credential.{Credential}
 use Rattle.rules.specs.declared.Card.{Card}
 use Rattle.rules.specs.Sound.{sound}
 use Rattle.texts.specs.Text.{Form, new, old, text}
-use Rattle.texts.specs.Calls.{Wrote, toText, Got, accepted, fromText}
+use Rattle.texts.specs.Calls.{Wrote, toText, Got, accepted, fromText, toNew, toOld}
 use Rattle.text_examples.specs.Bytes.{equal}
 
 -- every number of a card
@@ -67,7 +67,7 @@ pub data Row : Type 0 where
   -- a sound card, the bytes of its files, and its text: written where it just fits and where there is more room, refused by 10 in one byte less,
   -- and read
   written : Card → List ℕ → List ℕ → Row
-  -- the same of a card without directories in both forms, old and new; neither text is one of the other form
+  -- the same of a card without directories in both forms, old and new, and converted both ways; neither text is one of the other form
   in-both-forms : Card → List ℕ → List ℕ → List ℕ → Row
   -- the same of a card with directories, which has no text of the old form: 13 whatever room there is
   with-folders : Card → List ℕ → List ℕ → Row
@@ -96,10 +96,26 @@ holdsIn form c bytes s =
 abbrev pub no-old-text : Card → List ℕ → ℕ → Bool
 no-old-text c area room = writes (toText old c area (filler room)) 13 c 0 (filler room)
 
+-- what a converter makes of a text: another, where it just fits; nothing in one byte less
+abbrev pub turns : (List ℕ → List ℕ → Wrote) → Card → List ℕ → List ℕ → Bool
+turns convert c s t =
+    let n = length t in
+    writes (convert s (filler n)) 0 c n t && writes (convert s (filler (n - 1))) 10 c 0 (filler (n - 1))
+
+-- refused by this number
+abbrev pub turns-not : (List ℕ → List ℕ → Wrote) → ℕ → List ℕ → ℕ → Bool
+turns-not convert outcome s room =
+    eqb (convert s (filler room) .answer .outcome) outcome && (eqb (convert s (filler room) .answer .n) 0 && equal (convert s (filler room) .out) (filler room))
+
 abbrev pub holds : Row → Bool
 holds (written c bytes s) = holdsIn new c bytes s
-holds (in-both-forms c bytes s t) = holdsIn old c bytes s && (holdsIn new c bytes t && (not (accepted new s) && not (accepted old t)))
-holds (with-folders c bytes t) = holdsIn new c bytes t && (no-old-text c (area-of 0 bytes) 0 && no-old-text c (area-of 0 bytes) 9518)
+holds (in-both-forms c bytes s t) =
+    holdsIn old c bytes s && (holdsIn new c bytes t && (not (accepted new s) && (not (accepted old t)
+    && (turns toNew c s t && (turns toOld c t s
+    && (turns-not toNew 11 t 3 && turns-not toOld 11 s 3))))))
+holds (with-folders c bytes t) =
+    holdsIn new c bytes t && (no-old-text c (area-of 0 bytes) 0 && (no-old-text c (area-of 0 bytes) 9518
+    && (turns-not toOld 13 t 3 && (turns-not toOld 13 t 9518 && turns-not toNew 11 t 9518))))
 holds (unwritten c area room outcome) = writes (toText new c area (filler room)) outcome c 0 (filler room)
 holds (unread s size outcome) = reads (fromText new s (filler size)) outcome blank (filler size)
 holds (swept n p) = sweep n p

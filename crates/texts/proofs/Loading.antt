@@ -32,11 +32,12 @@ use Rattle.rules.specs.Sound.{sound}
 use Rattle.texts.specs.Text.{Form, new, text, ofForm}
 use Rattle.digits.specs.Page.{Draws}
 use Rattle.texts.specs.Reading.{skip, skips, hexIn, number, small, triesOf, triesIn, credentialIn, homeIn, currentIn, rightsIn, sessionIn, responseIn, counted, fileOf, fileIn, housedIn, bytesIn, folderIn, foldersIn, mostFoldersOf, foldered, sessionPart, foldersPart, foldersRead, filesPart, cardIn, areaIn, Fills, LoadsAll, LoadsDirectory, LoadsCard}
-use Rattle.texts.specs.Calls.{accepted, toText, Writes, fromText, Reads}
+use Rattle.texts.specs.Calls.{accepted, toText, Writes, fromText, Reads, converted}
 use Rattle.texts.specs.Laws.{longest}
 use Rattle.digits.proofs.Drawn.{drawn-over}
 use Rattle.texts.proofs.Contents.{laid-length}
 use Rattle.texts.proofs.Fitting.{text-fits}
+use Rattle.texts.proofs.Trips.{read-form}
 use Rattle.texts.proofs.Exact.{hex-few}
 use Rattle.texts.proofs.Scanning.{laid-filled, laid-byte}
 
@@ -170,6 +171,10 @@ module _ (form : Form) (c : Card) (area out : List ℕ) where
     unfolding toText
     write-unsound r k e = rw (eq-eqb (length area) areaSize a, sym h ∙ k) (record { answer-is = e; left-is = refl })
 
+    pub write-other : (r : Answer) → t ≡ true → ofForm form c ≡ false → r ≡ answer 13 c 0 → Writes (toText form c area out) r out
+    unfolding toText
+    write-other r k o e = rw (eq-eqb (length area) areaSize a, sym h ∙ k, o) (record { answer-is = e; left-is = refl })
+
     module _ (k : t ≡ true) (o : ofForm form c ≡ true) (blank : List ℕ) (b : length blank ≡ size₀) (n : ℕ) (drawn : List ℕ) (l : length drawn ≡ size₀) (w : Draws (text form c area) blank 0 n drawn) (q : Bool) (left : List ℕ)
         (v : Reading (shows (length drawn) 0 n (length out)) (part 0 n drawn) out q left) where
       good : sound c area ≡ true
@@ -215,6 +220,9 @@ module _ (form : Form) (s area : List ℕ) where
     unfolding fromText
     refused r z e = rw (eq-eqb (length area) areaSize a, z) (record { answer-is = e; left-is = refl })
 
+    pub read-of-form : ofForm form c ≡ true
+    read-of-form = ap (ofForm form) (w .card-is) ∙ read-form form s
+
     accepts : accepted form s ≡ (sound c image && same s (text form c image))
     unfolding accepted
     accepts = sym (rw (w .card-is, image-is))
@@ -235,3 +243,47 @@ module _ (form : Form) (s area : List ℕ) where
           let p : left ≡ image = k₀ ∙ over-splice image area ∙ over-all image area (a ∙ sym n) in
           let y : accepted form s ≡ true = accepts ∙ rw (sym h ∙ k, sym m ∙ z) in
           rw (eq-eqb (length area) areaSize a, y) (record { answer-is = e ∙ ap (λ (x : Card). answer 0 x 0) (w .card-is); left-is = p ∙ image-is })
+
+-- the converter
+module _ (given wanted : Form) (s out : List ℕ) (c : Card) (image : List ℕ) (w : LoadsCard given s (zeros areaSize) c image) (t : Bool) (h : t ≡ sound c image) where
+  abbrev some : length (zeros areaSize) ≡ areaSize
+  some = length-replicate {A = ℕ} areaSize 0
+
+  refused-so : (r : Answer) → accepted given s ≡ false → r ≡ answer 11 blankCard 0 → Writes (converted given wanted s out) r out
+  unfolding converted
+  refused-so r y e = rw y (record { answer-is = e; left-is = refl })
+
+  image-size : length image ≡ areaSize
+  image-size = ap length (w .left-is) ∙ laid-length (zeros areaSize) 0 (bytesIn given mostFiles areaSize (filesPart given s)) ∙ some
+
+  pub convert-unsound : (r : Answer) → t ≡ false → r ≡ answer 11 blankCard 0 → Writes (converted given wanted s out) r out
+  convert-unsound r z e = refused-so r (accepts given s (zeros areaSize) some c image w t h ∙ rw (sym h ∙ z)) e
+
+  pub given-so : ofForm given c ≡ true
+  given-so = read-of-form given s (zeros areaSize) some c image w t h
+
+  module _ (k : t ≡ true) (n : ℕ) (drawn : List ℕ) (d : Draws (text given c image) (replicate size₀ 0) 0 n drawn) (q : Bool) (m : q ≡ same s (take n drawn)) where
+    same-is : q ≡ same s (text given c image)
+    same-is = m ∙ ap (same s) (drawn-text given c image (sym h ∙ k) given-so (replicate size₀ 0) blank-page n drawn d)
+
+    pub convert-other : (r : Answer) → q ≡ false → r ≡ answer 11 blankCard 0 → Writes (converted given wanted s out) r out
+    convert-other r z e = refused-so r (accepts given s (zeros areaSize) some c image w t h ∙ rw (sym h ∙ k, sym same-is ∙ z)) e
+
+    module _ (y : q ≡ true) (u : Bool) (f : u ≡ ofForm wanted c) where
+      done-is : toText wanted c image out ≡ converted given wanted s out
+      unfolding converted
+      done-is =
+          let a : accepted given s ≡ true = accepts given s (zeros areaSize) some c image w t h ∙ rw (sym h ∙ k, sym same-is ∙ y) in
+          let i : image ≡ areaIn given s = image-is given s (zeros areaSize) some c image w t h in
+          rw (a, ← w .card-is, ← i)
+
+      pub convert-13 : (r : Answer) → u ≡ false → r ≡ answer 13 c 0 → Writes (converted given wanted s out) r out
+      convert-13 r z e = rw (← done-is) (write-other wanted c image out image-size t h r k (sym f ∙ z) e)
+
+      module _ (o : u ≡ true) (l₀ : length drawn ≡ size₀) (n′ : ℕ) (last : List ℕ) (l : length last ≡ size₀) (d′ : Draws (text wanted c image) drawn 0 n′ last) (q′ : Bool) (left : List ℕ)
+          (v : Reading (shows (length last) 0 n′ (length out)) (part 0 n′ last) out q′ left) where
+        pub convert-short : (r : Answer) → q′ ≡ false → r ≡ answer 10 c 0 → Writes (converted given wanted s out) r left
+        convert-short r z e = rw (← done-is) (write-short wanted c image out image-size t h k (sym f ∙ o) drawn l₀ n′ last l d′ q′ left v r z e)
+
+        pub convert-done : (r : Answer) → q′ ≡ true → r ≡ answer 0 c n′ → Writes (converted given wanted s out) r left
+        convert-done r z e = rw (← done-is) (write-done wanted c image out image-size t h k (sym f ∙ o) drawn l₀ n′ last l d′ q′ left v r z e)
