@@ -427,19 +427,25 @@ def test_folders():
           ["6982", "9000", "9000", "6A81", "9000", "6982", "9000", "6982"])
 
 
+def sets_of_rights(session):
+    """Each of the eight sets of rights, as names, once the session holds just that."""
+    for held in range(8):
+        session.reset()
+        names = set()
+        for bit, name, present in ((1, "device", session.log_in), (2, "user", session.user), (4, "admin", session.admin)):
+            if held & bit:
+                present()
+                names.add(name)
+        yield names
+
+
 def test_folder_rights():
     """Each creation right with each set of rights held."""
     for byte, asked in ASKED.items():
         session = device_session()
         session.send("80E05101 05 380000%02X00" % byte)
         sfi = 1
-        for held in range(8):
-            session.reset()
-            names = set()
-            for bit, name, present in ((1, "device", session.log_in), (2, "user", session.user), (4, "admin", session.admin)):
-                if held & bit:
-                    present()
-                    names.add(name)
+        for names in sets_of_rights(session):
             passes = any(set(needed.split()) <= names for needed in asked)
             shown = "%02X with %s" % (byte, " ".join(sorted(names)) or "nothing")
             # In the root the device right alone counts, whatever the directories ask.
@@ -1785,13 +1791,7 @@ def test_rights():
         session = device_session()
         check("create with %02X" % byte, session.send("80E00001 05 280001%02X%02X" % (byte, byte)), "9000")
         session.send("80E00002 05 2E0201%02X%02X" % (byte, byte))
-        for held in range(8):
-            session.reset()
-            names = set()
-            for bit, name, present in ((1, "device", session.log_in), (2, "user", session.user), (4, "admin", session.admin)):
-                if held & bit:
-                    present()
-                    names.add(name)
+        for names in sets_of_rights(session):
             passes = any(set(needed.split()) <= names for needed in asked)
             shown = "%02X with %s" % (byte, " ".join(sorted(names)) or "nothing")
             check("read " + shown, session.send("00B0810001"), "00 9000" if passes else "6982")
