@@ -13,10 +13,10 @@ FETCH = b"CMD\t00C0000000\t00112233445566778899AABBCCDDEEFF\n"
 
 
 def in_mode_1(line):
-    """The mode is the last of the eight fields of an ISSUE line."""
+    """The mode is the eighth of the ten fields of an ISSUE line."""
     fields = line.split(b"\t")
-    if fields[0] == b"ISSUE" and len(fields) == 8 and fields[7] == b"0\n":
-        return b"\t".join([*fields[:7], b"1\n"])
+    if fields[0] == b"ISSUE" and len(fields) == 10 and fields[7] == b"0":
+        return b"\t".join([*fields[:7], b"1", *fields[8:]])
     return line
 
 

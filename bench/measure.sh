@@ -12,7 +12,7 @@ earlier() {
 # make_scripts LINES: two scripts from a fixed seed. $work/mode-0 has so many random lines, and all its cards are of mode 0. $work/mode-1
 # is the same on cards of mode 1, with a GET RESPONSE behind each command that has data, as far as a script may go.
 make_scripts() {
-    python3 tests/model/generate.py 1 "$1" | LC_ALL=C sed -E 's/^(ISSUE(\t[^\t]*){6})\t[0-9]+$/\1\t0/' >"$work/mode-0"
+    python3 tests/model/generate.py 1 "$1" | LC_ALL=C sed -E 's/^(ISSUE(\t[^\t]*){6})\t[0-9]+((\t[^\t]*){2})$/\1\t0\3/' >"$work/mode-0"
     x86 target/bin/script <"$work/mode-0" >"$work/answers"
     python3 bench/fetching.py "$work/mode-0" "$work/answers" >"$work/mode-1"
 }

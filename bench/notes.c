@@ -1,17 +1,20 @@
 /*
  * How long one call takes in place, on cards with notes (files of type 2C), on
- * cards of mode 1 and on others: one command, again and again on the same card.
+ * cards of mode 1, with codes and on others: one command, again and again on the
+ * same card.
  *
  * It links with the library of an earlier version too, which may have no type
- * 2C and no mode: a card is taken to be as large as the library says, no card
- * is reset, and cards that cannot be made are left out. An issue without a mode
- * does not see the last argument.
+ * 2C, no mode and no codes: a card is taken to be as large as the library says, no
+ * card is reset, and cards that cannot be made are left out. An issue without a
+ * mode or a transport key does not see the last arguments. Codes are worked out by
+ * tests/c/coded.c, since such a library has no call for them.
  */
 #include <stdbool.h>
 #include <stdio.h>
 #include <stdlib.h>
 #include <string.h>
 
+#include "coded.h"
 #include "fips.h"
 #include "limpetnook.h"
 #include "measure.h"
@@ -27,12 +30,13 @@ static bool is_once;
 
 static const char usage[] =
     "usage: notes ROUNDS\n"
-    "       notes --once\n"
+    "       notes --once [--some]\n"
     "\n"
     "Gives cards in place one command each, 2,000 times in each of ROUNDS rounds (1 to\n"
     "999), and prints for each how many calls a second the fastest round had.\n"
-    "--once: prints a line for each call of limpet_command, for callgrind to count; the\n"
-    "calls that make a card have the line \"making\".\n";
+    "--once: prints a line for each call of limpet_command, whose instructions are to be\n"
+    "counted; the calls that make a card have the line \"making\". --some: on cards without\n"
+    "notes alone, which are made by few calls.\n";
 
 struct bytes {
     uint8_t at[LONGEST_COMMAND];
@@ -91,7 +95,7 @@ static void issue_in(uint16_t mode)
     static const uint8_t pin[] = { '1', '2', '3', '4', '5', '6' };
 
     if (limpet_issue((struct limpet_card *)card, area, LIMPET_AREA_SIZE, c1_key, sizeof c1_key, 128,
-                     pin, sizeof pin, 5, pin, sizeof pin, 3, mode) != LIMPET_OK) {
+                     pin, sizeof pin, 5, pin, sizeof pin, 3, mode, c1_cryptogram, sizeof c1_cryptogram, 10) != LIMPET_OK) {
         fprintf(stderr, "notes: a good order is refused\n");
         exit(EXIT_FAILURE);
     }
@@ -110,10 +114,12 @@ static void log_in(void)
     make("00 82 0000 10 69C4E0D86A7B0430D8CDB78070B4C55A", 0);
 }
 
-/* One command on the card as it is, which is set back before each call: so an append finds room again. That takes a few ns. */
-static void measure_in_turn(int turns, int rounds, const char *on, const char *what, const char *digits, size_t more, unsigned due)
+/*
+ * One command on the card as it is, which is set back before each call: so an append finds room again, and a code its challenge. That
+ * takes a few ns.
+ */
+static void measure_command(int turns, int rounds, const char *on, const char *what, const struct bytes *command, unsigned due)
 {
-    struct bytes command = read_command(digits, more);
     const size_t size = limpet_card_size();
     double best = 0;
 
@@ -122,7 +128,7 @@ static void measure_in_turn(int turns, int rounds, const char *on, const char *w
         printf("%s: %s\n", on, what);
         rounds = 0;
     }
-    unsigned word = give(&command);
+    unsigned word = give(command);
     if (word != due)
         stop(what, word, due);
     for (int round = 0; round < rounds; round++) {
@@ -130,7 +136,7 @@ static void measure_in_turn(int turns, int rounds, const char *on, const char *w
         for (int i = 0; i < CALLS; i++) {
             memcpy(card, kept, size);
             area = areas[i % turns];
-            give(&command);
+            give(command);
         }
         area = areas[0];
         double took = (now() - start) / CALLS;
@@ -140,6 +146,13 @@ static void measure_in_turn(int turns, int rounds, const char *on, const char *w
     memcpy(card, kept, size);
     if (!is_once)
         printf("%.0f\t%s: %s\n", best > 0 ? 1 / best : 0, on, what);
+}
+
+static void measure_in_turn(int turns, int rounds, const char *on, const char *what, const char *digits, size_t more, unsigned due)
+{
+    struct bytes command = read_command(digits, more);
+
+    measure_command(turns, rounds, on, what, &command, due);
 }
 
 static void measure(int rounds, const char *on, const char *what, const char *digits, size_t more, unsigned due)
@@ -175,6 +188,8 @@ static void with_binary(int rounds)
     make("80 E0 0101 05 28 1000 00 00", 0);
     measure(rounds, "a 28 file of 4,096 bytes", "query", "00 20 0001", 0, 0x63C3);
     measure(rounds, "a 28 file of 4,096 bytes", "read 256 bytes", "00 B0 8100 00", 0, 0x9000);
+    measure(rounds, "a 28 file of 4,096 bytes", "update 16 bytes", "00 D6 8100 10", 16, 0x9000);
+    measure(rounds, "a 28 file of 4,096 bytes", "update 247 bytes", "00 D6 8100 F7", 247, 0x9000);
     measure(rounds, "a 28 file of 4,096 bytes", "update 255 bytes", "00 D6 8100 FF", 255, 0x9000);
 }
 
@@ -186,6 +201,42 @@ static void with_fixed(int rounds)
     measure(rounds, "a 2A file of 128 records of 32 bytes", "read number 1", "00 B2 010C 00", 0, 0x9000);
     measure(rounds, "a 2A file of 128 records of 32 bytes", "read number 128", "00 B2 800C 00", 0, 0x9000);
     measure(rounds, "a 2A file of 128 records of 32 bytes", "update number 128", "00 DC 800C 20", 32, 0x9000);
+}
+
+/* ------------------------------------------------------------------ codes */
+
+/* Whether there are codes: a file can ask for them. Then there is a challenge of 16 bytes. */
+static bool create_coded(void)
+{
+    log_in();
+    if (made("80 E0 0101 05 28 1000 04 04", 0) != 0x9000)
+        return false;
+    make("00 84 0000 10", 0);
+    return true;
+}
+
+/* A command up to its code, and Le behind it where there is one; with a bit of the code wrong where it is due to be. */
+static void measure_coded(int rounds, const char *what, const char *digits, size_t more, int le, unsigned due)
+{
+    struct bytes command = read_command(digits, more);
+
+    code_of(c1_cryptogram, c1_block, sizeof c1_block, command.at, command.length, command.at + command.length);
+    command.at[command.length] ^= due == 0x6988;
+    command.length += LIMPET_CODE_SIZE;
+    if (le >= 0)
+        command.at[command.length++] = (uint8_t)le;
+    measure_command(1, rounds, "a 28 file of 4,096 bytes that asks for codes", what, &command, due);
+}
+
+static void with_codes(int rounds)
+{
+    measure(rounds, "a 28 file of 4,096 bytes that asks for codes", "update 16 bytes without a code", "00 D6 8100 10", 16, 0x6982);
+    measure_coded(rounds, "coded update of 1 byte", "04 D6 8100 05", 1, -1, 0x9000);
+    measure_coded(rounds, "coded update of 16 bytes", "04 D6 8100 14", 16, -1, 0x9000);
+    measure_coded(rounds, "coded update of 16 bytes, wrong code", "04 D6 8100 14", 16, -1, 0x6988);
+    measure_coded(rounds, "coded update of 247 bytes", "04 D6 8100 FB", 247, -1, 0x9000);
+    measure_coded(rounds, "coded read of 16 bytes", "04 B0 8100 04", 0, 16, 0x9000);
+    measure_coded(rounds, "coded read of 256 bytes", "04 B0 8100 04", 0, 0, 0x9000);
 }
 
 /* -------------------------------------------------------- cards of mode 1 */
@@ -284,7 +335,8 @@ static void with_mixed_notes(int rounds)
 
 int main(int count, char **arguments)
 {
-    is_once = count == 2 && strcmp(arguments[1], "--once") == 0;
+    bool is_some = count == 3 && strcmp(arguments[2], "--some") == 0;
+    is_once = (count == 2 || is_some) && strcmp(arguments[1], "--once") == 0;
     int rounds = is_once ? 1 : read_rounds(count, arguments, usage);
     if (limpet_card_size() > CARD_ROOM) {
         fprintf(stderr, "notes: a card takes more than %d bytes\n", CARD_ROOM);
@@ -294,9 +346,11 @@ int main(int count, char **arguments)
     with_sixteen(rounds);
     with_binary(rounds);
     with_fixed(rounds);
+    if (create_coded())
+        with_codes(rounds);
     if (issue_in_mode_1())
         with_waiting(rounds);
-    if (create_notes()) {
+    if (!is_some && create_notes()) {
         with_long_notes(rounds);
         with_short_notes(rounds);
         with_mixed_notes(rounds);

@@ -50,7 +50,7 @@ static size_t home_length(enum form form)
 
 static size_t session_length(const struct session *s, const struct response *r, enum form form)
 {
-    return 2 * CREDENTIALS + optional_length(s->current != 0 ? FID_BYTES : 0) + 1 + optional_length(s->length) + 1
+    return 2 * RIGHTS + optional_length(s->current != 0 ? FID_BYTES : 0) + 1 + optional_length(s->length) + 1
         + 2 + optional_length(waiting_count(r)) + home_length(form) + 1;
 }
 
@@ -132,7 +132,7 @@ static uint8_t *put_session(uint8_t *to, const struct layout *c, enum form form)
     const struct session *s = &c->session;
     const struct response *r = &c->response;
 
-    for (size_t i = 0; i < CREDENTIALS; i++) {
+    for (size_t i = 0; i < RIGHTS; i++) {
         to = put(to, s->rights[i] != 0 ? '1' : '0');
         to = put(to, '\t');
     }
@@ -359,7 +359,7 @@ static bool take_session(struct input *in, struct session *s, struct response *r
 {
     size_t length;
 
-    for (size_t i = 0; i < CREDENTIALS; i++)
+    for (size_t i = 0; i < RIGHTS; i++)
         if (!take_bit(in, &s->rights[i]))
             return false;
     current->is_any = !take(in, '-');

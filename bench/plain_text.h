@@ -1,5 +1,5 @@
 /*
- * A card written as lines and read again (requests R-4 and R-6, in the new form
+ * A card written as lines and read again (requests R-4, R-6 and R-9, in the new form
  * of R-8), and such lines made from those of the old form and back, in plain C: for
  * bench/texts and tests/fuzz-texts to hold the library's calls against.
  * The parameters and the outcomes are those of limpet_to_text, limpet_from_text,

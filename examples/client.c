@@ -29,7 +29,7 @@ static int folder, file; /* file: the card's. It is locked, since two programs t
 
 static void wipe(void)
 {
-    uint8_t below[LIMPET_TEXT_STACK + 4096]; /* of the stack, where calls leave copies of the key and the PINs */
+    uint8_t below[LIMPET_TEXT_STACK + 4096]; /* of the stack, where calls leave copies of the keys and the PINs */
 
     explicit_bzero(below, sizeof below);
     explicit_bzero(&own, sizeof own);

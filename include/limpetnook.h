@@ -23,11 +23,12 @@
  * What is taken at most, measured and not proved (tests/footprint):
  *
  *                     code    constants   stack of a call      C functions needed
- *   liblimpetnook.a   73000   700         LIMPET_TEXT_STACK    memcpy, memset
+ *   liblimpetnook.a   78000   1000        LIMPET_TEXT_STACK    memcpy, memset
  *   limpet_aes128     1335    0           LIMPET_AES128_STACK  none
+ *   limpet_code       2500    820         LIMPET_CODE_STACK    memcpy
  *
- * The second row is for a program that calls limpet_aes128 alone and is linked
- * with --gc-sections: each function is in a section of its own. A program
+ * The other two rows are each for a program that calls that function alone and is
+ * linked with --gc-sections: each function is in a section of its own. A program
  * without a C library has to bring along what is needed of it.
  */
 #ifndef LIMPETNOOK_H
@@ -48,17 +49,18 @@ extern "C" {
  *
  *   if (limpet_version() != LIMPET_VERSION) ... header and library do not match
  */
-#define LIMPET_VERSION 10
+#define LIMPET_VERSION 11
 
 uint32_t limpet_version(void);
 
 /*
  * The bytes of stack that are enough for a call: on a card, of its two calls
- * for a text and the two that convert one, and of limpet_aes128.
+ * for a text and the two that convert one, of limpet_aes128, and of limpet_code.
  */
-#define LIMPET_CARD_STACK 5632
+#define LIMPET_CARD_STACK 7168
 #define LIMPET_TEXT_STACK 18432
 #define LIMPET_AES128_STACK 512
+#define LIMPET_CODE_STACK 768
 
 /* Outcomes. The numbers are fixed: scripts print them too. */
 #define LIMPET_OK 0          /* served */
@@ -67,7 +69,7 @@ uint32_t limpet_version(void);
 #define LIMPET_BAD_RANDOM 3  /* the random input is not 16 bytes long */
 #define LIMPET_UNSOUND 4     /* card and area are together no state of a card */
 #define LIMPET_BAD_ISSUE 5   /* issue: a key, a PIN, a limit or the mode is not good */
-#define LIMPET_BAD_LENGTH 6  /* key, block or output is not 16 bytes long */
+#define LIMPET_BAD_LENGTH 6  /* cipher and code: a key, block, challenge or output of another length */
 #define LIMPET_SHORT_TEXT 10 /* the buffer is shorter than the card's text */
 #define LIMPET_BAD_TEXT 11   /* the text is not the lines of a card */
 #define LIMPET_DIRECTORY 13  /* the card has a directory, and the old form has none */
@@ -78,17 +80,22 @@ uint32_t limpet_version(void);
 /* Bytes of the buffers of a card's calls. */
 #define LIMPET_AREA_SIZE 4096  /* the data area: exactly */
 #define LIMPET_RANDOM_SIZE 16  /* fresh random bytes: exactly */
-#define LIMPET_KEY_SIZE 16     /* the device key: exactly */
+#define LIMPET_KEY_SIZE 16     /* the device key and the transport key: exactly */
 #define LIMPET_REPLY_SIZE 258  /* the reply: at least */
-#define LIMPET_TEXT_SIZE 9518  /* the text of a card: no card has a longer one */
+#define LIMPET_TEXT_SIZE 9559  /* the text of a card: no card has a longer one */
+
+/* Bytes of the code at the end of a coded command: exactly. */
+#define LIMPET_CODE_SIZE 4
 
 /*
  * Status words, the last two bytes of an answer: those that a program needs by
  * name. docs/COMMANDS.md has all of them.
  */
-#define LIMPET_SW_DONE 0x9000     /* done */
-#define LIMPET_SW_NO_RIGHT 0x6982 /* a right is missing: a PIN, or the device login */
-#define LIMPET_SW_BLOCKED 0x6983  /* no tries are left, so nothing was compared */
+#define LIMPET_SW_DONE 0x9000         /* done */
+#define LIMPET_SW_NO_RIGHT 0x6982     /* missing: a PIN, the device login, or a code */
+#define LIMPET_SW_BLOCKED 0x6983      /* no tries are left, so nothing was compared */
+#define LIMPET_SW_NO_CHALLENGE 0x6984 /* GET CHALLENGE has to come right before */
+#define LIMPET_SW_WRONG_CODE 0x6988   /* the code is wrong, and there is a try less */
 
 /* 61xx, only from a card of mode 1: done, and so many bytes wait, 1 to 256. */
 #define LIMPET_SW_IS_WAITING(sw) (((sw) & 0xFF00) == 0x6100)
@@ -134,9 +141,62 @@ uint8_t limpet_aes128(const uint8_t *key, size_t key_len,
                       uint8_t *out, size_t out_len);
 
 /*
+ * The code of a command, for the main board's side: for whoever sends commands to
+ * a card over a bus on which others may listen and write. No card is needed.
+ *
+ * A coded command has the class 04, and is one of READ BINARY, UPDATE BINARY, READ
+ * RECORD, UPDATE RECORD and APPEND RECORD. Its data end with the four bytes of the
+ * code, which Lc counts:
+ *
+ *   04 INS P1 P2 Lc data code      an update or an append; Lc is 05 or more
+ *   04 INS P1 P2 04 code Le        a read
+ *
+ * To send one: have the card's GET CHALLENGE (00 84 00 00 and 04, 08 or 10), work
+ * out the code, and send the command as the next one; on a card of mode 1 behind
+ * the GET RESPONSE that has the challenge. Each coded command needs a challenge of
+ * its own. Any other command in between drops it, also one that somebody else sends.
+ *
+ *   key        the transport key that the card was issued with, LIMPET_KEY_SIZE bytes
+ *   challenge  the card's reply to GET CHALLENGE, 4, 8 or 16 bytes
+ *   message    the command up to the code: 04, INS, P1, P2, Lc as it is sent, and
+ *              the data before the code; of any length, also none. Le is not in it
+ *   code       LIMPET_CODE_SIZE bytes
+ *
+ *   LIMPET_OK          code holds the code of the message: the first four bytes of
+ *                      the last block of AES-128 in CBC mode under the key, over the
+ *                      message, one byte 80, and bytes 00 up to a multiple of 16;
+ *                      from the challenge on, filled with 00 to 16 bytes.
+ *   LIMPET_BAD_LENGTH  key_len is not 16, challenge_len not 4, 8 or 16, or code_len
+ *                      not 4. code is as it was.
+ *
+ * There is no other outcome. key, challenge and message are never written, and
+ * neither is any byte before or after code. The caller's side is that of
+ * limpet_aes128: code overlaps none of the other three, and those may overlap.
+ *
+ * The card takes a code for a presentation of the transport key. Nothing else
+ * happens at a wrong one, 6988, but a try less and the challenge dropped. A right
+ * one restores all tries, whatever the status word behind it. With no tries left it
+ * is 6983 for good: no call and no command gives a transport key new tries or another
+ * value. So choose the limit for a bus on which bits go wrong.
+ *
+ * A code keeps a command from being altered, made up or sent again. It hides
+ * nothing: data and replies pass as they are. The answer has no code, so a clip on
+ * the bus can alter that. Nor does the code cover Le, so it can have a read give
+ * more or fewer bytes. Give each card a key of its own: of two that have the same
+ * one, each takes the other's commands where their challenges are the same.
+ *
+ * Which instructions a call runs, and at which addresses it reads and writes, depends
+ * on the pointers and the numbers alone and not on the bytes, as with limpet_aes128.
+ */
+uint8_t limpet_code(const uint8_t *key, size_t key_len,
+                    const uint8_t *challenge, size_t challenge_len,
+                    const uint8_t *message, size_t message_len,
+                    uint8_t *code, size_t code_len);
+
+/*
  * A card: its credentials, tries, directories, files and session. What is in it
  * is not for C to read or write; the contents of its files are in the data area.
- * It holds the key and the PINs as they are: keep it where nobody else can read.
+ * It holds the keys and the PINs as they are: keep it where nobody else can read.
  *
  * The caller keeps the card and its area of 4,096 bytes, and lends both to each
  * call, always the same two together. The call changes them in place. While no
@@ -171,7 +231,7 @@ struct limpet_card;
  *
  * once limpet_version() was seen to be LIMPET_VERSION.
  */
-#define LIMPET_CARD_SIZE 544
+#define LIMPET_CARD_SIZE 563
 
 size_t limpet_card_size(void);
 
@@ -185,9 +245,14 @@ size_t limpet_card_size(void);
  * is 0 or 1, for good: in mode 0 a command's data come with its answer, in
  * mode 1 they wait to be fetched, as readers that speak T=0 need it.
  *
+ * The transport key is LIMPET_KEY_SIZE bytes too, and stays for good with its limit,
+ * of wrong codes in a row. It opens no right: limpet_code makes codes with it. The
+ * main board has the same key; a card whose files ask for no codes has one as well,
+ * of random bytes that nobody keeps where none is to be used.
+ *
  *   LIMPET_OK         the card is issued.
  *   LIMPET_BAD_AREA   area_len is not LIMPET_AREA_SIZE.
- *   LIMPET_BAD_ISSUE  the key, a PIN, a limit or the mode is not as said above.
+ *   LIMPET_BAD_ISSUE  a key, a PIN, a limit or the mode is not as said above.
  *
  * There is no other outcome, and the first that applies is returned. On a
  * refusal the area is as it was and the card is blank, each byte of it 00: a
@@ -199,7 +264,8 @@ uint8_t limpet_issue(struct limpet_card *card,
                      const uint8_t *key, size_t key_len, uint16_t device_limit,
                      const uint8_t *admin_pin, size_t admin_pin_len, uint16_t admin_limit,
                      const uint8_t *user_pin, size_t user_pin_len, uint16_t user_limit,
-                     uint16_t mode);
+                     uint16_t mode,
+                     const uint8_t *transport_key, size_t transport_key_len, uint16_t transport_limit);
 
 /*
  * Gives the card one command, of any bytes and any length, also none, and has
@@ -255,7 +321,7 @@ uint8_t limpet_reset(struct limpet_card *card, const uint8_t *area, size_t area_
 
 /*
  * Writes a card and its files as lines of text. docs/CARD-FILE.md says what
- * stands in them: all that the card holds, the key, the PINs and the bytes that
+ * stands in them: all that the card holds, the keys, the PINs and the bytes that
  * wait too. Card and area are only read.
  *
  *   LIMPET_OK          the first *text_count bytes of the buffer are the text.
@@ -292,7 +358,7 @@ uint8_t limpet_to_text(const struct limpet_card *card,
  * bytes of its text. Where it was without power meanwhile, limpet_reset has to come
  * next. A text that was cut off behind a directory or a file may not be refused: it
  * can be that of a card without what followed. So store a text as a whole or not at
- * all. A text of version 8 or earlier is refused: it has another form.
+ * all. A text of version 10 or earlier is refused: it has no transport key.
  *
  * A text that was read and is written again is the same text. A card that was
  * written and is read again is the same card with the same files.
@@ -305,8 +371,10 @@ uint8_t limpet_from_text(struct limpet_card *card,
  * Before there were directories a card's text had another form. It is the old
  * form; what limpet_to_text writes is the new one. docs/CARD-FILE.md has both
  * side by side. These two make a text of the one form out of a text of the other:
- * that of the same card, with the same files, tries, PINs and session. No card and
- * no area is needed. The first *text_count bytes of the buffer are the text then.
+ * that of the same card, with the same files, tries, keys, PINs and session. No card
+ * and no area is needed. The first *text_count bytes of the buffer are the text then.
+ * Both forms have a line for the transport key: a text of version 10 or earlier,
+ * of either form, is refused.
  *
  * limpet_text_to_new: old is a text of the old form. In the new text every file
  * lies in the root, and the root is the current directory.

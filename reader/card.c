@@ -28,7 +28,8 @@ uint8_t card_issue(const struct line *l)
     uint8_t outcome = limpet_issue(card(), area, sizeof area,
                                    l->key.at, l->key.len, l->device_limit,
                                    l->admin_pin.at, l->admin_pin.len, l->admin_limit,
-                                   l->user_pin.at, l->user_pin.len, l->user_limit, l->mode);
+                                   l->user_pin.at, l->user_pin.len, l->user_limit, l->mode,
+                                   l->transport_key.at, l->transport_key.len, l->transport_limit);
 
     if (outcome == LIMPET_OK)
         mode = (uint8_t)l->mode;
@@ -70,13 +71,21 @@ uint8_t card_to_lasting_text(struct card_text *t)
     return outcome;
 }
 
-/* The session is the fourth line, and the mode its sixth field. */
-static uint8_t mode_of(const struct card_text *t)
+/* Where the line with so many before it begins. */
+static size_t line_behind(const struct card_text *t, int lines)
 {
     size_t at = 0;
 
-    for (int newlines = 0; at < t->len && newlines < 3; at++)
+    for (int newlines = 0; at < t->len && newlines < lines; at++)
         newlines += t->at[at] == '\n';
+    return at;
+}
+
+/* The session is the fifth line, and the mode its sixth field. */
+static uint8_t mode_of(const struct card_text *t)
+{
+    size_t at = line_behind(t, 4);
+
     for (int tabs = 0; at < t->len && tabs < 5; at++)
         tabs += t->at[at] == '\t';
     return at < t->len && t->at[at] == '1';
@@ -104,6 +113,25 @@ bool card_text_has(enum text_form form, const struct card_text *t)
 
     wipe(&converted, sizeof converted);
     return outcome == LIMPET_OK || outcome == LIMPET_DIRECTORY;
+}
+
+/* Any key will do to see whether one is all that it lacks. */
+bool card_text_lacks_key(const struct card_text *t)
+{
+    static const char key_line[] = "00000000000000000000000000000000\t1\t1\n";
+    static struct card_text mended;
+    size_t at = line_behind(t, 3), added = sizeof key_line - 1;
+    bool lacks;
+
+    if (t->len + added > sizeof mended.at)
+        return false;
+    memcpy(mended.at, t->at, at);
+    memcpy(mended.at + at, key_line, added);
+    memcpy(mended.at + at + added, t->at + at, t->len - at);
+    mended.len = t->len + added;
+    lacks = card_text_has(NEW_FORM, &mended) || card_text_has(OLD_FORM, &mended);
+    wipe(&mended, sizeof mended);
+    return lacks;
 }
 
 /* SELECT, READ BINARY, READ RECORD, GET RESPONSE, GET CHALLENGE. None of them is shown a key or a PIN. */
@@ -134,7 +162,7 @@ const char *outcome_says(uint8_t outcome)
         [LIMPET_BAD_AREA] = "the data area has the wrong length",
         [LIMPET_BAD_RANDOM] = "the random input is not 16 bytes",
         [LIMPET_UNSOUND] = "the card's state is not sound",
-        [LIMPET_BAD_ISSUE] = "the key is not 16 bytes, a PIN not 6 to 16 digits, a limit not 1 to 128, or the mode not 0 or 1",
+        [LIMPET_BAD_ISSUE] = "a key is not 16 bytes, a PIN not 6 to 16 digits, a limit not 1 to 128, or the mode not 0 or 1",
         [LIMPET_SHORT_TEXT] = "the room for the card's lines is too short",
         [LIMPET_BAD_TEXT] = "these are not the lines of a sound card",
         [LIMPET_DIRECTORY] = "the card has a directory, and the old form has none",

@@ -39,6 +39,9 @@ uint8_t card_text_into(enum text_form wanted, const struct card_text *given, str
 /* Whether it is the text of a card in that form, by the word of the library. */
 bool card_text_has(enum text_form form, const struct card_text *t);
 
+/* Whether a line with a transport key behind the third would make it the text of a card, as it was before version 11. */
+bool card_text_lacks_key(const struct card_text *t);
+
 /* Whether the command is one of those that can change the session alone, by its class and instruction. */
 bool card_only_reads(struct bytes command);
 

@@ -89,8 +89,10 @@ void read_issue(const struct bytes fields[ISSUE_FIELDS], struct line *l)
     l->user_pin = fields[4];
     if (!read_hex(fields[0], &l->key))
         l->wrong = "the device key is not upper-case hex";
+    else if (!read_hex(fields[7], &l->transport_key))
+        l->wrong = "the transport key is not upper-case hex";
     else if (!read_number(fields[1], &l->device_limit) || !read_number(fields[3], &l->admin_limit)
-             || !read_number(fields[5], &l->user_limit))
+             || !read_number(fields[5], &l->user_limit) || !read_number(fields[8], &l->transport_limit))
         l->wrong = "a limit is not a number";
     else if (!read_number(fields[6], &l->mode))
         l->wrong = "the mode is not a number";

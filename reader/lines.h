@@ -16,7 +16,7 @@ enum {
     MOST_LINES = 65535,
     LONGEST_LINE = 1024, /* bytes before the newline */
     LONGEST_HEX = 300,   /* bytes, of two digits each */
-    ISSUE_FIELDS = 7,    /* behind the word: key, limit, admin PIN, limit, user PIN, limit, mode */
+    ISSUE_FIELDS = 9,    /* behind the word: key, limit, admin PIN, limit, user PIN, limit, mode, transport key, limit */
     NO_LINE = 9          /* the outcome of a line that is none */
 };
 
@@ -43,9 +43,9 @@ enum kind { OTHER_LINE, ISSUE_LINE, CMD_LINE, RESET_LINE };
 struct line {
     enum kind kind;
     const char *wrong; /* why it is none all the same; NULL where it is one */
-    struct hex key, command, random;
+    struct hex key, transport_key, command, random;
     struct bytes admin_pin, user_pin;
-    uint16_t device_limit, admin_limit, user_limit, mode;
+    uint16_t device_limit, admin_limit, user_limit, mode, transport_limit;
 };
 
 /* The next line of the input; false where there is none. */

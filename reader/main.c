@@ -19,6 +19,7 @@ const char said_by[] = "limpet-reader";
 static const char usage[] =
     "usage: reader/run [OPTION]... FILE\n"
     "       reader/run [OPTION]... KEY LIMIT ADMIN-PIN LIMIT USER-PIN LIMIT [MODE]\n"
+    "                              TRANSPORT-KEY LIMIT\n"
     "       reader/run [OPTION]... --card CARD\n"
     "\n"
     "Puts a card into vpcd, the virtual reader of Debian's package vsmartcard-vpcd.\n"
@@ -28,7 +29,7 @@ static const char usage[] =
     "\n"
     "FILE is a script: an ISSUE line and, where wanted, CMD and RESET lines that\n"
     "prepare the card (./limpet --help has their form). Or the values of an ISSUE\n"
-    "line are given as words: the key as upper-case hex, each limit 1 to 128, the mode\n"
+    "line are given as words: each key as upper-case hex, each limit 1 to 128, the mode\n"
     "0 or 1; without one it is that of --mode, or 0. Words stay in the shell's history\n"
     "and in the terminal's scrollback, and others on the same machine can see them; not\n"
     "so what is in a file.\n"
@@ -102,12 +103,12 @@ static bool read_mode(char *text, char **mode)
 
 static bool good_count(const struct arguments *a)
 {
-    if (a->words == 1 || a->words == ISSUE_FIELDS - 1 || a->words == ISSUE_FIELDS || (a->words == 0 && a->card != NULL))
+    if (a->words == 1 || a->words == ISSUE_FIELDS_WITHOUT_MODE || a->words == ISSUE_FIELDS || (a->words == 0 && a->card != NULL))
         return true;
     if (a->words == 0)
         say("nothing says which card: give a script, the values of an issue, or a card file with --card");
     else
-        say("%d words are neither a script nor the 6 or 7 values of an issue", a->words);
+        say("%d words are neither a script nor the 8 or 9 values of an issue", a->words);
     return false;
 }
 
@@ -181,8 +182,7 @@ static bool issue_values(const struct arguments *a)
     static char mode_0[] = "0";
     char *value[ISSUE_FIELDS];
 
-    value[ISSUE_FIELDS - 1] = a->mode != NULL ? a->mode : mode_0;
-    memcpy(value, a->word, (size_t)a->words * sizeof value[0]);
+    complete_issue_words(a->words, a->word, a->mode != NULL ? a->mode : mode_0, value);
     return issue_words(value);
 }
 
@@ -203,8 +203,12 @@ static bool take_card(const struct arguments *a, enum found found, const struct 
         return make_card(a);
     if (a->words > 0 || a->prepare != NULL)
         say("%s is there, so its card is put in and no other is made", a->card);
-    if (a->words > 1)
-        wipe_issue_words(a->word);
+    if (a->words > 1) {
+        char *value[ISSUE_FIELDS];
+
+        complete_issue_words(a->words, a->word, NULL, value);
+        wipe_issue_words(value);
+    }
     return store_load(kept) && put_in();
 }
 

@@ -8,6 +8,9 @@
 #include "process.h"
 #include "say.h"
 
+enum { MODE_FIELD = 6 };
+const size_t issue_secrets[ISSUE_SECRETS] = { 0, 2, 4, 7 };
+
 /* How far a script has come, and which of its lines the card refused. */
 struct progress {
     size_t lines, refused, first; /* first: the number of the first refused one */
@@ -48,6 +51,8 @@ static const char *wrong_values(const struct line *l)
         { is_pin(l->user_pin), "the user PIN is not 6 to 16 digits" },
         { is_limit(l->user_limit), "the user PIN's limit is not 1 to 128" },
         { l->mode <= 1, "the mode is not 0 or 1" },
+        { l->transport_key.len == LIMPET_KEY_SIZE, "the transport key is not 16 bytes" },
+        { is_limit(l->transport_limit), "the transport key's limit is not 1 to 128" },
     };
     size_t len = 0;
 
@@ -101,10 +106,19 @@ static const char *run_command(const struct line *l, struct progress *p)
     return NULL;
 }
 
-void wipe_issue_words(char *const words[])
+void complete_issue_words(int count, char *const given[], char *mode, char *words[ISSUE_FIELDS])
+{
+    bool has_mode = count == ISSUE_FIELDS;
+
+    memcpy(words, given, MODE_FIELD * sizeof words[0]);
+    words[MODE_FIELD] = has_mode ? given[MODE_FIELD] : mode;
+    memcpy(words + MODE_FIELD + 1, given + MODE_FIELD + (has_mode ? 1 : 0), (ISSUE_FIELDS - MODE_FIELD - 1) * sizeof words[0]);
+}
+
+void wipe_issue_words(char *const words[ISSUE_FIELDS])
 {
     for (size_t i = 0; i < ISSUE_SECRETS; i++)
-        wipe(words[2 * i], strlen(words[2 * i]));
+        wipe(words[issue_secrets[i]], strlen(words[issue_secrets[i]]));
 }
 
 bool issue_words(char *const words[ISSUE_FIELDS])
@@ -131,7 +145,7 @@ static const char *run_line(const struct text *t, struct line *l, bool issue_due
     if (l->kind == ISSUE_LINE)
         return issue_due ? run_issue(l) : "a card has been issued already";
     if (issue_due && t->len <= LONGEST_LINE)
-        return "the first line is to be an ISSUE: key, limit, admin PIN, limit, user PIN, limit, mode, parted by tabs";
+        return "the first line is to be an ISSUE: key, limit, admin PIN, limit, user PIN, limit, mode, transport key, limit, parted by tabs";
     if (l->wrong != NULL)
         return l->wrong;
     return l->kind == CMD_LINE ? run_command(l, p) : why_not(card_reset());

@@ -206,7 +206,7 @@ void store_warn_of_others(const struct store *s)
     unsigned mode = store_open_to_others(s);
 
     if (mode != 0)
-        say("warning: %s is open to others (mode %03o), and has the key and the PINs as they are; say: chmod 600 %s",
+        say("warning: %s is open to others (mode %03o), and has the keys and the PINs as they are; say: chmod 600 %s",
             s->path, mode, s->path);
 }
 
@@ -224,6 +224,11 @@ static void say_no_card(const struct store *s)
 {
     char *word;
 
+    if (card_text_lacks_key(&s->text)) {
+        say("%s is a card of before version 11, and has no transport key: put a line with one behind line 3, as docs/CARD-FILE.md says",
+            s->path);
+        return;
+    }
     if (!card_text_has(OLD_FORM, &s->text)) {
         say("%s: these are not the lines of a sound card; tools/card check says more", s->path);
         return;
@@ -303,7 +308,7 @@ static void warn_of_it(const struct store *s, const char *name)
 
     pause_for(PAUSE);
     if (is_nobodys(s, name))
-        say("warning: %.*s%s is left from a program that was killed, and may hold the key and the PINs; whoever changes %s next "
+        say("warning: %.*s%s is left from a program that was killed, and may hold the keys and the PINs; whoever changes %s next "
             "removes it", folder, s->path, name, s->path);
 }
 

@@ -40,7 +40,7 @@ void store_warn_of_leftovers(const struct store *s);
 
 /*
  * Each has the card of this program be that of the file, and warns where others can open it. False where the file is none, which
- * only the second says, and how one in the old form is converted.
+ * only the second says, and how one in the old form, or of before there was a transport key, becomes one.
  */
 bool store_has_card(const struct store *s);
 bool store_load(const struct store *s);

@@ -8,7 +8,7 @@ LIMIT = rb"(0|[1-9][0-9]{0,3}|[1-5][0-9]{4}|6[0-4][0-9]{3}|65[0-4][0-9]{2}|655[0
 PIN = rb"[^\t]*"
 MODE = LIMIT  # a number like a limit
 ISSUE, CMD, RESET = b"ISSUE", b"CMD", b"RESET"
-RECORDS = ((ISSUE, HEX, LIMIT, PIN, LIMIT, PIN, LIMIT, MODE), (CMD, HEX, HEX), (RESET,))
+RECORDS = ((ISSUE, HEX, LIMIT, PIN, LIMIT, PIN, LIMIT, MODE, HEX, LIMIT), (CMD, HEX, HEX), (RESET,))
 SCRIPT_LINE = re.compile(b"|".join(b"\t".join(record) for record in RECORDS))
 
 

@@ -4,6 +4,7 @@
 #include <stdio.h>
 #include <string.h>
 
+#include "coded.h"
 #include "fips.h"
 
 #define ADMIN_PIN "87654321"
@@ -19,14 +20,28 @@ struct given given_text(const char *text)
     return given_bytes((const uint8_t *)text, strlen(text));
 }
 
+static const uint8_t transport_key[LIMPET_KEY_SIZE] = {
+    0x10, 0x11, 0x12, 0x13, 0x14, 0x15, 0x16, 0x17, 0x18, 0x19, 0x1A, 0x1B, 0x1C, 0x1D, 0x1E, 0x1F
+};
+
 struct order good_order(void)
 {
     return (struct order){
         .key = given_bytes(c1_key, sizeof c1_key), .device_limit = 128,
         .admin_pin = given_text(ADMIN_PIN), .admin_limit = 5,
         .user_pin = given_text(USER_PIN), .user_limit = 3,
-        .mode = 0
+        .mode = 0,
+        .transport_key = given_bytes(transport_key, sizeof transport_key), .transport_limit = 10
     };
+}
+
+/* The code of a command so far, for a card whose bytes may be any. */
+static void put_code(const struct held *h, uint8_t *command, size_t length)
+{
+    struct layout c;
+
+    memcpy(&c, h->card.bytes, sizeof c);
+    code_for(&c, command, length, command + length);
 }
 
 unsigned tell(struct held *h, const char *command)
@@ -34,11 +49,19 @@ unsigned tell(struct held *h, const char *command)
     uint8_t bytes[300];
     size_t length = 0;
     unsigned byte;
-    int read;
+    int read = 1;
 
-    while (length < sizeof bytes && sscanf(command, " %2x%n", &byte, &read) == 1) {
-        bytes[length++] = (uint8_t)byte;
-        command += read;
+    for (; length + LIMPET_CODE_SIZE <= sizeof bytes; command += read) {
+        command += strspn(command, " ");
+        if (*command == '*') {
+            put_code(h, bytes, length);
+            length += LIMPET_CODE_SIZE;
+            read = 1;
+        } else if (sscanf(command, "%2x%n", &byte, &read) == 1) {
+            bytes[length++] = (uint8_t)byte;
+        } else {
+            break;
+        }
     }
     struct answer a = watched_command(h, given_bytes(bytes, length),
                                       given_bytes(c1_block, sizeof c1_block), LIMPET_REPLY_SIZE, false);
@@ -114,7 +137,15 @@ static void with_rights(struct held *h)
     told(h, "00 84 0000 08");
 }
 
-/* One cyclic file with a record, user PIN without tries, admin PIN with some gone, a challenge of 16. */
+/* Once with a challenge; the code is wrong, whatever the file. */
+static void give_wrong_code(struct held *h)
+{
+    told(h, "00 84 0000 04");
+    if (tell(h, "04 B0 8100 04 00000000 01") != 0x6988)
+        wrong("a wrong code of a card in the making is not 6988");
+}
+
+/* One cyclic file with a record, user PIN and transport key without tries, admin PIN with some gone, a challenge of 16. */
 static void locked(struct held *h)
 {
     issue(h);
@@ -124,6 +155,8 @@ static void locked(struct held *h)
     for (int i = 0; i < 3; i++)
         tell(h, "00 20 0001 06 313131313131");
     tell(h, "00 20 0000 06 313131313131");
+    for (int i = 0; i < 10; i++)
+        give_wrong_code(h);
     told(h, "00 84 0000 10");
 }
 
@@ -165,6 +198,38 @@ static void with_folders(struct held *h)
     told(h, "00 E2 0018 04 B1B1B1B1");
     told(h, "00 D6 8200 02 C1C2");
     told(h, "00 84 0000 04");
+}
+
+/*
+ * Files that ask for codes to be read or written, with rights and without, written and read by coded commands. Two tries of the
+ * transport key are gone, the admin right is held and a challenge of 8 bytes is there.
+ */
+static void with_codes(struct held *h)
+{
+    static const char *const coded[] = {
+        "04 D6 8100 07 A1A2A3 *", "04 DC 0214 09 B1B2B3B4B5 *", "04 E2 0018 08 C1C1C1C1 *", "04 D6 8500 05 E1 *", "04 B0 8100 04 * 00",
+        "04 B2 0114 04 * 05", "04 B2 011C 04 * 00"
+    };
+
+    issue(h);
+    log_in_device(h);
+    told(h, "80 E0 0101 05 28 0010 04 04");
+    told(h, "80 E0 0102 05 2A 0405 C6 05");
+    told(h, "80 E0 0103 05 2E 0304 44 04");
+    told(h, "80 E0 0104 05 2C 0010 C4 47");
+    told(h, "80 E0 0105 05 28 0008 0F 86");
+    told(h, "80 E0 0106 05 28 0008 00 01");
+    log_in_pins(h);
+    for (size_t i = 0; i < sizeof coded / sizeof coded[0]; i++) {
+        told(h, "00 84 0000 10");
+        told(h, coded[i]);
+    }
+    if (watched_reset(h) != LIMPET_OK)
+        wrong("a reset of a card in the making is refused");
+    give_wrong_code(h);
+    give_wrong_code(h);
+    told(h, "00 20 0000 08 3837363534333231");
+    told(h, "00 84 0000 08");
 }
 
 /* A read made another file current; the challenge after it was fetched in two parts, and stays. */
@@ -256,6 +321,7 @@ const struct sort sorts[SORTS] = {
     [LOCKED] = { "with a locked PIN", locked },
     [SIXTEEN] = { "with sixteen files", full },
     [WITH_FOLDERS] = { "with directories", with_folders },
+    [WITH_CODES] = { "with files that ask for codes", with_codes },
     [NONE_WAITING] = { "in mode 1 with nothing waiting", none_waiting },
     [ALL_WAITING] = { "in mode 1 with 256 bytes waiting", all_waiting },
     [WITH_NOTES] = { "in mode 1 with notes of different lengths and five bytes waiting", with_notes },

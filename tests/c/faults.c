@@ -7,17 +7,20 @@
 #include <stdlib.h>
 #include <string.h>
 
+#include "coded.h"
 #include "layout.h"
 #include "limpetnook.h"
 
 uint8_t __real_limpet_issue(struct limpet_card *card, uint8_t *area, size_t area_len,
                             const uint8_t *key, size_t key_len, uint16_t device_limit,
                             const uint8_t *admin_pin, size_t admin_pin_len, uint16_t admin_limit,
-                            const uint8_t *user_pin, size_t user_pin_len, uint16_t user_limit, uint16_t mode);
+                            const uint8_t *user_pin, size_t user_pin_len, uint16_t user_limit, uint16_t mode,
+                            const uint8_t *transport_key, size_t transport_key_len, uint16_t transport_limit);
 uint8_t __wrap_limpet_issue(struct limpet_card *card, uint8_t *area, size_t area_len,
                             const uint8_t *key, size_t key_len, uint16_t device_limit,
                             const uint8_t *admin_pin, size_t admin_pin_len, uint16_t admin_limit,
-                            const uint8_t *user_pin, size_t user_pin_len, uint16_t user_limit, uint16_t mode);
+                            const uint8_t *user_pin, size_t user_pin_len, uint16_t user_limit, uint16_t mode,
+                            const uint8_t *transport_key, size_t transport_key_len, uint16_t transport_limit);
 uint8_t __real_limpet_command(struct limpet_card *card, uint8_t *area, size_t area_len,
                               const uint8_t *command, size_t command_len,
                               const uint8_t *random, size_t random_len,
@@ -36,6 +39,10 @@ uint8_t __real_limpet_from_text(struct limpet_card *card, uint8_t *area, size_t 
                                 const uint8_t *text, size_t text_len);
 uint8_t __wrap_limpet_from_text(struct limpet_card *card, uint8_t *area, size_t area_len,
                                 const uint8_t *text, size_t text_len);
+uint8_t __real_limpet_code(const uint8_t *key, size_t key_len, const uint8_t *challenge, size_t challenge_len,
+                           const uint8_t *message, size_t message_len, uint8_t *code, size_t code_len);
+uint8_t __wrap_limpet_code(const uint8_t *key, size_t key_len, const uint8_t *challenge, size_t challenge_len,
+                           const uint8_t *message, size_t message_len, uint8_t *code, size_t code_len);
 uint8_t __real_limpet_text_to_new(const uint8_t *old, size_t old_len, uint8_t *text, size_t text_len, size_t *text_count);
 uint8_t __wrap_limpet_text_to_new(const uint8_t *old, size_t old_len, uint8_t *text, size_t text_len, size_t *text_count);
 uint8_t __real_limpet_text_to_old(const uint8_t *given, size_t given_len, uint8_t *text, size_t text_len, size_t *text_count);
@@ -56,6 +63,12 @@ static bool has_text_fault(const char *name)
     return has_fault(name);
 }
 
+/* A fault of limpet_code: only the program codes makes them. */
+static bool has_code_fault(const char *name)
+{
+    return has_fault(name);
+}
+
 static bool is_odd(const struct limpet_card *card)
 {
     return (uintptr_t)card % 2 != 0;
@@ -66,7 +79,7 @@ static void mask_rights(struct limpet_card *card)
 {
     uint8_t *rights = (uint8_t *)card + offsetof(struct layout, session.rights);
 
-    for (size_t i = 0; i < 3; i++)
+    for (size_t i = 0; i < RIGHTS; i++)
         rights[i] &= 1;
 }
 
@@ -138,10 +151,13 @@ static void flip(const void *bytes, ptrdiff_t place)
 uint8_t __wrap_limpet_issue(struct limpet_card *card, uint8_t *area, size_t area_len,
                             const uint8_t *key, size_t key_len, uint16_t device_limit,
                             const uint8_t *admin_pin, size_t admin_pin_len, uint16_t admin_limit,
-                            const uint8_t *user_pin, size_t user_pin_len, uint16_t user_limit, uint16_t mode)
+                            const uint8_t *user_pin, size_t user_pin_len, uint16_t user_limit, uint16_t mode,
+                            const uint8_t *transport_key, size_t transport_key_len, uint16_t transport_limit)
 {
     uint8_t outcome = __real_limpet_issue(card, area, area_len, key, key_len, device_limit,
-                                          admin_pin, admin_pin_len, admin_limit, user_pin, user_pin_len, user_limit, mode);
+                                          admin_pin, admin_pin_len, admin_limit, user_pin, user_pin_len, user_limit, mode,
+                                          transport_key, transport_key_len, transport_limit);
+    struct credential *issued = &((struct layout *)card)->credentials[TRANSPORT];
     bool served = outcome == LIMPET_OK;
 
     if (has_fault("issue-leaves-a-card") && !served)
@@ -168,6 +184,28 @@ uint8_t __wrap_limpet_issue(struct limpet_card *card, uint8_t *area, size_t area
         return LIMPET_OK;
     if (has_fault("issue-forgets-the-mode") && served)
         ((struct layout *)card)->response.mode = 0;
+    if (has_fault("issue-writes-the-transport-key") && transport_key_len > 0)
+        flip(transport_key, (ptrdiff_t)transport_key_len - 1);
+    if (has_fault("issue-writes-past-the-transport-key"))
+        flip(transport_key, (ptrdiff_t)transport_key_len);
+    if (has_fault("issue-transport-key-of-15") && transport_key_len == 15 && !served)
+        return LIMPET_OK;
+    if (has_fault("issue-transport-key-of-17") && transport_key_len == 17 && !served)
+        return LIMPET_OK;
+    if (has_fault("issue-transport-limit-129") && transport_limit == 129 && !served)
+        return LIMPET_OK;
+    if (has_fault("issue-transport-limit-by-its-low-byte") && transport_limit == 256 + 10 && !served)
+        return LIMPET_OK;
+    if (has_fault("issue-transport-key-before-the-area") && outcome == LIMPET_BAD_AREA && transport_key_len != 16)
+        return LIMPET_BAD_ISSUE;
+    if (has_fault("issue-takes-the-device-key-for-both") && served)
+        memcpy(issued->value, key, sizeof issued->value);
+    if (has_fault("issue-takes-the-user-limit-for-codes") && served)
+        issued->tries = (struct tries){ (uint8_t)user_limit, (uint8_t)user_limit };
+    if (has_fault("issue-with-a-try-less-for-codes") && served)
+        issued->tries.left--;
+    if (has_fault("issue-refuses-a-key-with-00") && served && memchr(transport_key, 0, transport_key_len) != NULL)
+        return LIMPET_BAD_ISSUE;
     return outcome;
 }
 
@@ -480,19 +518,189 @@ static void spoil_folders(struct limpet_card *card, const struct layout *before,
     memcpy(card, &c, sizeof c);
 }
 
+/* ---- codes (R-9) ---- */
+
+enum { LONGEST_COMMAND = 5 + 255 + 1 };
+
+/* As where a library looks at codes in another way: what a right one would have to be given for the same answer. */
+static const uint8_t *with_other_code(const struct layout *c, const uint8_t *command, size_t length, uint8_t *changed)
+{
+    uint8_t due[LIMPET_CODE_SIZE];
+
+    if (!is_coded(command, length) || refusal_of_code(c, command, length) == 0x6A86 || refusal_of_code(c, command, length) == 0x6700)
+        return command;
+    size_t covered = 5 + command[4] - sizeof due;
+    code_for(c, command, covered, due);
+    memcpy(changed, command, length);
+    uint8_t *code = changed + covered;
+    bool is_right = memcmp(code, due, sizeof due) == 0;
+
+    if (has_fault("code-not-looked-at"))
+        memcpy(code, due, sizeof due);
+    if (has_fault("right-code-refused") && is_right)
+        code[3] ^= 1;
+    if (has_fault("padding-left-out-at-16") && is_right && covered % 16 == 0)
+        code[0] ^= 1;
+    if (has_fault("code-of-one-block-alone") && is_right && covered >= 16)
+        code[0] ^= 1;
+    return changed;
+}
+
+/* As where a library takes a right that asks for codes for another one. */
+static uint8_t other_right(uint8_t right, bool has_code)
+{
+    if (!asks_code(right))
+        return right;
+    if (has_fault("plain-command-let-through") && !has_code)
+        return (uint8_t)(right & ~0x04);
+    if (has_fault("code-is-one-of-the-alternatives") && !has_code && (right & 0x02) != 0)
+        return (uint8_t)(right & ~0x04);
+    if (has_fault("code-instead-of-rights") && has_code)
+        return 0x00;
+    if (has_fault("code-alone-opens-nothing") && has_code && right == 0x04)
+        return 0x0F;
+    return right;
+}
+
+static void change_rights(struct limpet_card *card, bool has_code)
+{
+    struct layout c;
+
+    memcpy(&c, card, sizeof c);
+    for (size_t i = 0; i < FILES; i++) {
+        c.directory.files[i].read = other_right(c.directory.files[i].read, has_code);
+        c.directory.files[i].write = other_right(c.directory.files[i].write, has_code);
+    }
+    memcpy(card, &c, sizeof c);
+}
+
+/* Those of files that were there before. */
+static void put_rights_back(struct limpet_card *card, const struct layout *before)
+{
+    struct layout c;
+
+    memcpy(&c, card, sizeof c);
+    for (size_t i = 0; i < FILES && i < before->directory.count; i++) {
+        c.directory.files[i].read = before->directory.files[i].read;
+        c.directory.files[i].write = before->directory.files[i].write;
+    }
+    memcpy(card, &c, sizeof c);
+}
+
+/* A served command. before: the card before it. */
+static void spoil_codes(struct limpet_card *card, uint8_t *area, const struct layout *before, const uint8_t *command, size_t length,
+                        uint8_t *reply, size_t *count)
+{
+    struct layout c;
+    struct credential *key = &c.credentials[TRANSPORT];
+    unsigned word = 256u * reply[*count - 2] + reply[*count - 1];
+    unsigned refusal = is_coded(command, length) ? refusal_of_code(before, command, length) : 0x6D00;
+    bool is_wrong = refusal == 0x6988, is_right = refusal == 0, done = word == 0x9000 || word >> 8 == 0x61;
+
+    memcpy(&c, card, sizeof c);
+    if (has_fault("wrong-code-keeps-the-tries") && is_wrong)
+        key->tries.left = before->credentials[TRANSPORT].tries.left;
+    if (has_fault("wrong-code-takes-all-tries") && is_wrong)
+        key->tries.left = 0;
+    if (has_fault("wrong-code-keeps-the-challenge") && is_wrong)
+        memcpy(&c.session.challenge, before->session.challenge, CHALLENGE_ROOM + 1);
+    if (has_fault("wrong-code-drops-a-right") && is_wrong)
+        c.session.rights[ADMIN] = 0;
+    if (has_fault("wrong-code-alters-the-file") && is_wrong)
+        flip(area, 0);
+    if (has_fault("wrong-code-is-63cx") && is_wrong)
+        put_word(reply, count, 0x63C0 + key->tries.left);
+    if (has_fault("last-wrong-code-is-6983") && is_wrong && key->tries.left == 0)
+        put_word(reply, count, 0x6983);
+    if (has_fault("right-code-keeps-the-tries") && is_right)
+        key->tries.left = before->credentials[TRANSPORT].tries.left;
+    if (has_fault("right-code-restores-at-9000-alone") && is_right && !done)
+        key->tries.left = before->credentials[TRANSPORT].tries.left;
+    if (has_fault("right-code-keeps-the-challenge") && is_right)
+        memcpy(&c.session.challenge, before->session.challenge, CHALLENGE_ROOM + 1);
+    if (has_fault("right-code-holds-a-right") && is_right && c.credentials[DEVICE].tries.left == c.credentials[DEVICE].tries.limit)
+        c.session.rights[DEVICE] = 1;
+    if (has_fault("no-challenge-before-no-tries") && refusal == 0x6983 && before->session.length == 0)
+        put_word(reply, count, 0x6984);
+    if (has_fault("no-tries-before-6700") && refusal == 0x6700 && key->tries.left == 0)
+        put_word(reply, count, 0x6983);
+    if (has_fault("blocked-code-is-6988") && refusal == 0x6983)
+        put_word(reply, count, 0x6988);
+    if (has_fault("any-command-restores-the-tries"))
+        key->tries.left = key->tries.limit;
+    if (has_fault("any-command-changes-the-transport-key"))
+        key->value[15] ^= 1;
+    memcpy(card, &c, sizeof c);
+}
+
+/* As where a library looks at some part of the transport key, or of rights with bit 3, no more: whether nothing else is unsound. */
+static bool codes_alone_are_bad(const struct limpet_card *card, const uint8_t *area)
+{
+    struct layout c;
+    struct credential *key = &c.credentials[TRANSPORT];
+
+    memcpy(&c, card, sizeof c);
+    if (is_sound((const uint8_t *)&c, area))
+        return false;
+    if (has_fault("transport-key-length-not-looked-at"))
+        key->length = 16;
+    if (has_fault("transport-limit-129") && key->tries.limit == 129)
+        key->tries = (struct tries){ 128, 128 };
+    if (has_fault("transport-limit-0") && key->tries.limit == 0)
+        key->tries.limit = 128;
+    if (has_fault("transport-tries-past-the-limit"))
+        key->tries.left = 0;
+    for (size_t i = 0; i < FILES && has_fault("bits-2-and-3-alone-good"); i++) {
+        struct file *f = &c.directory.files[i];
+        f->read = f->read == 0x06 ? 0x00 : f->read;
+        f->write = f->write == 0x06 ? 0x00 : f->write;
+    }
+    for (size_t i = 0; i < FILES && has_fault("bit-4-good"); i++) {
+        struct file *f = &c.directory.files[i];
+        f->read = f->read == 0x0F ? 0x0F : (uint8_t)(f->read & ~0x08);
+        f->write = f->write == 0x0F ? 0x0F : (uint8_t)(f->write & ~0x08);
+    }
+    return is_sound((const uint8_t *)&c, area);
+}
+
+/* As where a library refuses what is sound. */
+static bool refuses_codes(const struct layout *c)
+{
+    const struct credential *key = &c->credentials[TRANSPORT];
+    bool has_right = c->session.rights[DEVICE] || c->session.rights[ADMIN] || c->session.rights[USER];
+
+    if (has_fault("right-held-asks-all-tries-of-codes") && has_right && key->tries.left < key->tries.limit)
+        return true;
+    if (has_fault("blocked-transport-key-refused") && key->tries.left == 0)
+        return true;
+    if (has_fault("transport-key-as-a-pin") && (key->value[0] < 0x30 || key->value[0] > 0x39))
+        return true;
+    for (size_t i = 0; i < c->directory.count; i++) {
+        const struct file *f = &c->directory.files[i];
+        if (has_fault("bit-3-still-bad") && (asks_code(f->read) || asks_code(f->write)))
+            return true;
+        if (has_fault("bit-3-alone-bad") && (f->read == 0x04 || f->write == 0x04))
+            return true;
+    }
+    return false;
+}
+
 uint8_t __wrap_limpet_command(struct limpet_card *card, uint8_t *area, size_t area_len,
                               const uint8_t *command, size_t command_len,
                               const uint8_t *random, size_t random_len,
                               uint8_t *reply, size_t reply_len, size_t *reply_count)
 {
     struct layout before;
+    uint8_t changed[LONGEST_COMMAND];
 
     if (has_fault("rights-by-their-lowest-bit"))
         mask_rights(card);
     memcpy(&before, card, sizeof before);
-    uint8_t outcome = __real_limpet_command(card, area, area_len, command, command_len, random, random_len,
-                                            reply, reply_len, reply_count);
+    change_rights(card, is_coded(command, command_len));
+    uint8_t outcome = __real_limpet_command(card, area, area_len, with_other_code(&before, command, command_len, changed), command_len,
+                                            random, random_len, reply, reply_len, reply_count);
     bool served = outcome == LIMPET_OK;
+    put_rights_back(card, &before);
 
     if (has_fault("reply-past-its-end"))
         flip(reply, (ptrdiff_t)reply_len);
@@ -536,10 +744,14 @@ uint8_t __wrap_limpet_command(struct limpet_card *card, uint8_t *area, size_t ar
         spoil_waiting(card, &before, command, command_len, reply, reply_count);
     if (outcome == LIMPET_UNSOUND && (waiting_alone_is_bad(card, area) || folders_alone_are_bad(card, area)))
         return LIMPET_OK;
-    if (served && refuses_folders(card))
+    if (outcome == LIMPET_UNSOUND && codes_alone_are_bad(card, area))
+        return LIMPET_OK;
+    if (served && (refuses_folders(card) || refuses_codes(&before)))
         return LIMPET_UNSOUND;
-    if (served)
+    if (served) {
         spoil_folders(card, &before, command, command_len);
+        spoil_codes(card, area, &before, command, command_len, reply, reply_count);
+    }
     return outcome;
 }
 
@@ -556,6 +768,10 @@ uint8_t __wrap_limpet_reset(struct limpet_card *card, const uint8_t *area, size_
         memset((uint8_t *)card + offsetof(struct layout, directory.folders), 0, sizeof before.directory.folders + 1);
     if (has_fault("reset-takes-any-folder") && outcome == LIMPET_UNSOUND && before.session.folder > before.directory.number)
         return LIMPET_OK;
+    if (has_fault("reset-restores-the-tries-of-codes") && outcome == LIMPET_OK)
+        ((struct layout *)card)->credentials[TRANSPORT].tries.left = before.credentials[TRANSPORT].tries.limit;
+    if (has_fault("reset-bit-3-still-bad") && outcome == LIMPET_OK && before.directory.count > 0 && asks_code(before.directory.files[0].read))
+        return LIMPET_UNSOUND;
     if (has_fault("reset-keeps-what-waits") && outcome == LIMPET_OK)
         ((struct layout *)card)->response = before.response;
     if (has_fault("reset-forgets-the-mode") && outcome == LIMPET_OK)
@@ -585,6 +801,9 @@ uint8_t __wrap_limpet_reset(struct limpet_card *card, const uint8_t *area, size_
     return outcome;
 }
 
+/* Which line of a text is the session's, from 0 on: it stands behind those of the credentials. */
+enum { SESSION_LINE = CREDENTIALS };
+
 /* As where a writer takes lower-case digits. */
 static void lower_first_letter(uint8_t *text, size_t count)
 {
@@ -595,19 +814,35 @@ static void lower_first_letter(uint8_t *text, size_t count)
         }
 }
 
-/* As where a writer has admin and user PIN in the other order: the lines behind the first. */
-static void swap_pins(uint8_t *text, size_t count)
+/* Where the line of that number begins, from 0 on. The text has it. */
+static uint8_t *start_of(uint8_t *text, size_t count, unsigned number)
 {
-    uint8_t *line[3], *end = text + count;
-    uint8_t second[LIMPET_TEXT_SIZE];
+    uint8_t *at = text;
 
-    line[0] = (uint8_t *)memchr(text, '\n', count) + 1;
-    for (int i = 1; i < 3; i++)
-        line[i] = (uint8_t *)memchr(line[i - 1], '\n', (size_t)(end - line[i - 1])) + 1;
-    size_t first_length = (size_t)(line[1] - line[0]), second_length = (size_t)(line[2] - line[1]);
-    memcpy(second, line[1], second_length);
-    memmove(line[0] + second_length, line[0], first_length);
-    memcpy(line[0], second, second_length);
+    for (unsigned i = 0; i < number; i++)
+        at = (uint8_t *)memchr(at, '\n', count - (size_t)(at - text)) + 1;
+    return at;
+}
+
+/* As where a writer has two credentials in the other order: the line of that number and the one behind it. */
+static void swap_lines(uint8_t *text, size_t count, unsigned number)
+{
+    uint8_t *first = start_of(text, count, number), *next = start_of(text, count, number + 1);
+    uint8_t second[LIMPET_TEXT_SIZE];
+    size_t first_length = (size_t)(next - first), second_length = (size_t)(start_of(text, count, number + 2) - next);
+
+    memcpy(second, next, second_length);
+    memmove(first + second_length, first, first_length);
+    memcpy(first, second, second_length);
+}
+
+/* As where a writer has the credentials of before R-9. */
+static void drop_transport_key(uint8_t *text, size_t *count)
+{
+    uint8_t *line = start_of(text, *count, TRANSPORT), *next = start_of(text, *count, TRANSPORT + 1);
+
+    memmove(line, next, *count - (size_t)(next - text));
+    *count -= (size_t)(next - line);
 }
 
 /* As where a writer has the old form: without the root at the end of lines. */
@@ -623,15 +858,14 @@ static void drop_roots(uint8_t *text, size_t *count)
     *count = kept;
 }
 
-/* As where a writer begins with the folder that was made last: their lines stand behind the fourth newline, each of 8 bytes. */
+/* As where a writer begins with the folder that was made last: their lines stand behind the session's, each of 8 bytes. */
 static void swap_folders(const struct limpet_card *card, uint8_t *text, size_t count)
 {
-    uint8_t number = ((const struct layout *)card)->directory.number, *at = text, first[8];
+    uint8_t number = ((const struct layout *)card)->directory.number, first[8];
 
     if (number < 2)
         return;
-    for (int i = 0; i < 4; i++)
-        at = (uint8_t *)memchr(at, '\n', count - (size_t)(at - text)) + 1;
+    uint8_t *at = start_of(text, count, SESSION_LINE + 1);
     uint8_t *last = at + 8 * (number - 1);
     memcpy(first, at, sizeof first);
     memcpy(at, last, sizeof first);
@@ -669,7 +903,11 @@ uint8_t __wrap_limpet_to_text(const struct limpet_card *card, const uint8_t *are
     if (has_text_fault("text-lower-case") && served)
         lower_first_letter(text, *text_count);
     if (has_text_fault("text-pins-swapped") && served)
-        swap_pins(text, *text_count);
+        swap_lines(text, *text_count, ADMIN);
+    if (has_text_fault("text-transport-key-before-the-user-pin") && served)
+        swap_lines(text, *text_count, USER);
+    if (has_text_fault("text-without-the-transport-key") && served)
+        drop_transport_key(text, text_count);
     if (has_text_fault("text-in-the-old-form") && served)
         drop_roots(text, text_count);
     if (has_text_fault("text-folders-in-another-order") && served)
@@ -753,13 +991,13 @@ static void cut_at_zero(struct lenient *t)
         t->length = (size_t)(zero - t->bytes);
 }
 
-/* Where the mode stands: the sixth field of the fourth line. NULL where there is none. */
+/* Where the mode stands: the sixth field of the session's line. NULL where there is none. */
 static uint8_t *mode_in(struct lenient *t)
 {
     uint8_t *at = t->bytes, *end = t->bytes + t->length;
 
-    for (int i = 0; i < 3 + 5 && at != NULL; i++) {
-        at = memchr(at, i < 3 ? '\n' : '\t', (size_t)(end - at));
+    for (int i = 0; i < SESSION_LINE + 5 && at != NULL; i++) {
+        at = memchr(at, i < SESSION_LINE ? '\n' : '\t', (size_t)(end - at));
         at = at != NULL ? at + 1 : NULL;
     }
     return at != NULL && at < end ? at : NULL;
@@ -840,10 +1078,11 @@ static void take_folders(struct lenient *t)
 
     for (uint8_t *at = t->bytes; at < t->bytes + t->length; number++) {
         struct text_line l = line_at(t, at);
-        bool has_home = (number == 3 && l.tabs == 7) || (number > 3 && l.tabs == 4);
-        if (has_text_fault("reader-takes-the-old-form") && ((number == 3 && l.tabs == 6) || (number > 3 && l.tabs == 3)))
+        bool is_session = number == SESSION_LINE, is_behind = number > SESSION_LINE;
+        bool has_home = (is_session && l.tabs == 7) || (is_behind && l.tabs == 4);
+        if (has_text_fault("reader-takes-the-old-form") && ((is_session && l.tabs == 6) || (is_behind && l.tabs == 3)))
             put(t, l.end, 0, "\t3F00");
-        if (has_text_fault("reader-takes-a-session-without-a-folder") && number == 3 && l.tabs == 6)
+        if (has_text_fault("reader-takes-a-session-without-a-folder") && is_session && l.tabs == 6)
             put(t, l.end, 0, "\t3F00");
         if (has_text_fault("reader-takes-dash-for-the-root") && has_home && ends_with(&l, "\t-"))
             put(t, l.end - 1, 1, "3F00");
@@ -851,13 +1090,13 @@ static void take_folders(struct lenient *t)
             put(t, l.end - 4, 4, "3F00");
         if (has_text_fault("reader-takes-an-unknown-folder") && has_home && l.end - l.at > 4 && !is_home(t, l.end - 4))
             put(t, l.end - 4, 4, "3F00");
-        if (has_text_fault("reader-takes-short-creation-rights") && number > 3 && l.tabs == 1 && l.end - l.at == 6)
+        if (has_text_fault("reader-takes-short-creation-rights") && is_behind && l.tabs == 1 && l.end - l.at == 6)
             put(t, l.end - 1, 0, "0");
-        if (has_text_fault("reader-takes-any-creation-right") && number > 3 && l.tabs == 1 && l.end - l.at == 7)
+        if (has_text_fault("reader-takes-any-creation-right") && is_behind && l.tabs == 1 && l.end - l.at == 7)
             put(t, l.end - 2, 2, "00");
         l = line_at(t, at);
         at = l.end + 1;
-        if (number > 3 && l.tabs == 1 && ++folders == FOLDERS + 1 && has_text_fault("reader-takes-a-fifth-folder")
+        if (is_behind && l.tabs == 1 && ++folders == FOLDERS + 1 && has_text_fault("reader-takes-a-fifth-folder")
             && at <= t->bytes + t->length) {
             put(t, l.at, (size_t)(at - l.at), "");
             at = l.at;
@@ -865,9 +1104,22 @@ static void take_folders(struct lenient *t)
     }
 }
 
+/* As where a reader takes a text of before R-9: the session's line stands in the place of the transport key's. */
+static void take_three_credentials(struct lenient *t)
+{
+    uint8_t *at = t->bytes;
+
+    for (unsigned i = 0; i < TRANSPORT && at < t->bytes + t->length; i++)
+        at = line_at(t, at).end + 1;
+    if (at < t->bytes + t->length && line_at(t, at).tabs > 2)
+        put(t, at, 0, "101112131415161718191A1B1C1D1E1F\t10\t10\n");
+}
+
 static void be_lenient(struct lenient *t)
 {
     take_folders(t);
+    if (has_text_fault("reader-takes-three-credentials"))
+        take_three_credentials(t);
     if (has_text_fault("reader-takes-lower-case"))
         upper_case(t);
     if (has_text_fault("reader-takes-cr"))
@@ -951,7 +1203,11 @@ uint8_t __wrap_limpet_from_text(struct limpet_card *card, uint8_t *area, size_t 
     if (has_text_fault("reader-forgets-the-current-file") && served)
         forget(card, offsetof(struct layout, session.current), 1);
     if (has_text_fault("reader-forgets-the-rights") && served)
-        forget(card, offsetof(struct layout, session.rights), CREDENTIALS);
+        forget(card, offsetof(struct layout, session.rights), RIGHTS);
+    if (has_text_fault("reader-forgets-the-transport-key") && served)
+        forget(card, offsetof(struct layout, credentials[TRANSPORT].value), VALUE_ROOM);
+    if (has_text_fault("reader-gives-codes-all-tries") && served)
+        ((struct layout *)card)->credentials[TRANSPORT].tries.left = ((struct layout *)card)->credentials[TRANSPORT].tries.limit;
     if (has_text_fault("reader-forgets-what-waits") && served)
         forget(card, offsetof(struct layout, response.count1), 2 + WAITING_ROOM);
     if (has_text_fault("reader-forgets-the-mode") && served)
@@ -1024,7 +1280,7 @@ static void set_homes(struct lenient *t, const char *fid, bool session_too)
 
     for (uint8_t *at = t->bytes; at < t->bytes + t->length; number++) {
         struct text_line l = line_at(t, at);
-        if ((l.tabs == 7 && session_too) || (number > 3 && l.tabs == 4))
+        if ((l.tabs == 7 && session_too) || (number > SESSION_LINE && l.tabs == 4))
             put(t, l.end - 4, 4, fid);
         at = l.end + 1;
     }
@@ -1085,7 +1341,11 @@ static uint8_t spoil_conversion(uint8_t outcome, const uint8_t *given, size_t gi
     if (has_text_fault("conversion-lower-case") && served)
         lower_first_letter(text, *text_count);
     if (has_text_fault("conversion-pins-swapped") && served)
-        swap_pins(text, *text_count);
+        swap_lines(text, *text_count, ADMIN);
+    if (has_text_fault("conversion-transport-key-before-the-user-pin") && served)
+        swap_lines(text, *text_count, USER);
+    if (has_text_fault("conversion-without-the-transport-key") && served)
+        drop_transport_key(text, text_count);
     if (has_text_fault("conversion-just-fits-refused") && served && *text_count == text_len)
         return LIMPET_SHORT_TEXT;
     if (has_text_fault("conversion-short-before-bad-text") && outcome == LIMPET_BAD_TEXT && text_len == 0)
@@ -1100,14 +1360,16 @@ static void take_new_parts(struct lenient *t)
 
     for (uint8_t *at = t->bytes; at < t->bytes + t->length; number++) {
         struct text_line l = line_at(t, at);
-        if (has_text_fault("to-new-takes-a-folder-on-the-session") && number == 3 && l.tabs == 7)
+        if (has_text_fault("to-new-takes-a-folder-on-the-session") && number == SESSION_LINE && l.tabs == 7)
             drop_last_field(t, l);
-        if (has_text_fault("to-new-takes-folders-on-files") && number > 3 && l.tabs == 4)
+        if (has_text_fault("to-new-takes-folders-on-files") && number > SESSION_LINE && l.tabs == 4)
             drop_last_field(t, l);
         at = line_at(t, at).end + 1;
     }
     if (has_text_fault("to-new-takes-folders"))
         drop_folders(t);
+    if (has_text_fault("to-new-takes-three-credentials"))
+        take_three_credentials(t);
 }
 
 uint8_t __wrap_limpet_text_to_new(const uint8_t *old, size_t old_len, uint8_t *text, size_t text_len, size_t *text_count)
@@ -1168,4 +1430,74 @@ uint8_t __wrap_limpet_text_to_old(const uint8_t *given, size_t given_len, uint8_
         }
     }
     return spoil_conversion(outcome, given, given_len, text, text_len, text_count);
+}
+
+/* ---- codes for the board ---- */
+
+/* As where a library works codes out in another way. */
+static void other_code(const uint8_t *key, const uint8_t *challenge, size_t challenge_len, const uint8_t *message, size_t message_len,
+                       uint8_t *code)
+{
+    static const uint8_t zeros[CHALLENGE_ROOM];
+    uint8_t filled[CHALLENGE_ROOM];
+
+    if (has_code_fault("code-from-00-on"))
+        code_of(key, zeros, sizeof zeros, message, message_len, code);
+    memset(filled, 0xFF, sizeof filled);
+    memcpy(filled, challenge, challenge_len);
+    if (has_code_fault("code-challenge-filled-with-ff"))
+        code_of(key, filled, sizeof filled, message, message_len, code);
+    memset(filled, 0, sizeof filled);
+    memcpy(filled + sizeof filled - challenge_len, challenge, challenge_len);
+    if (has_code_fault("code-challenge-at-the-end"))
+        code_of(key, filled, sizeof filled, message, message_len, code);
+    if (has_code_fault("code-of-the-last-block-alone") && message_len >= 16)
+        code_of(key, challenge, challenge_len, message + message_len / 16 * 16, message_len % 16, code);
+    if (has_code_fault("code-without-padding-at-16") && message_len % 16 == 0 && message_len > 0)
+        code[0] ^= 1;
+    if (has_code_fault("code-of-256-bytes-at-most") && message_len > 256)
+        code_of(key, challenge, challenge_len, message, 256, code);
+    if (has_code_fault("code-with-a-bit-wrong"))
+        code[3] ^= 0x80;
+}
+
+uint8_t __wrap_limpet_code(const uint8_t *key, size_t key_len, const uint8_t *challenge, size_t challenge_len,
+                           const uint8_t *message, size_t message_len, uint8_t *code, size_t code_len)
+{
+    uint8_t outcome = __real_limpet_code(key, key_len, challenge, challenge_len, message, message_len, code, code_len);
+    bool served = outcome == LIMPET_OK;
+
+    if (served)
+        other_code(key, challenge, challenge_len, message, message_len, code);
+    if (has_code_fault("code-past-its-end"))
+        flip(code, (ptrdiff_t)code_len);
+    if (has_code_fault("code-before-its-start"))
+        flip(code, -1);
+    if (has_code_fault("code-on-refusal") && !served && code_len > 0)
+        flip(code, (ptrdiff_t)code_len - 1);
+    if (has_code_fault("code-writes-the-key") && key_len > 0)
+        flip(key, 0);
+    if (has_code_fault("code-writes-the-challenge") && challenge_len > 0)
+        flip(challenge, 0);
+    if (has_code_fault("code-writes-the-message") && message_len > 0)
+        flip(message, (ptrdiff_t)message_len - 1);
+    if (has_code_fault("code-reads-past-the-message") && message != NULL)
+        (void)*(volatile const uint8_t *)(message + message_len);
+    if (has_code_fault("code-reads-before-the-message") && message != NULL)
+        (void)*(volatile const uint8_t *)(message - 1);
+    if (has_code_fault("code-reads-16-bytes-of-the-challenge") && challenge_len > 0)
+        (void)*(volatile const uint8_t *)(challenge + 15);
+    if (has_code_fault("code-reads-past-the-key") && key_len > 0)
+        (void)*(volatile const uint8_t *)(key + key_len);
+    if (has_code_fault("code-with-a-longer-key") && key_len > 16 && !served)
+        return LIMPET_OK;
+    if (has_code_fault("code-with-a-challenge-of-12") && challenge_len == 12 && !served)
+        return LIMPET_OK;
+    if (has_code_fault("code-with-no-challenge") && challenge_len == 0 && key_len == 16 && code_len == 4)
+        return LIMPET_OK;
+    if (has_code_fault("code-of-8-bytes") && code_len == 8 && !served)
+        return LIMPET_OK;
+    if (has_code_fault("code-refuses-no-message") && message_len == 0 && served)
+        return LIMPET_BAD_LENGTH;
+    return outcome;
 }

@@ -368,7 +368,7 @@ static struct part any_line(struct draft *d)
 }
 
 /* A file's line has tabs, and the lines of its contents have none. The line of a folder is a block of its own, known by its length. */
-enum { LINES_BEFORE_FILES = 4, FIELDS_BEFORE_MODE = 5, MOST_BLOCKS = 64, FOLDER_LENGTH = 8, FID_LENGTH = 4 };
+enum { LINES_BEFORE_FILES = CREDENTIALS + 1, FIELDS_BEFORE_MODE = 5, MOST_BLOCKS = 64, FOLDER_LENGTH = 8, FID_LENGTH = 4 };
 
 struct blocks {
     struct part at[MOST_BLOCKS];
@@ -426,7 +426,7 @@ static struct part between_blocks(struct draft *d)
     return (struct part){ at, at };
 }
 
-/* A line of fields: one of the first four, or the line of a file. */
+/* A line of fields: a credential's, the session's, or the line of a file. */
 static struct part any_line_of_fields(struct draft *d)
 {
     struct blocks b = find_blocks(d);
@@ -459,8 +459,9 @@ static const char hex[] = "0123456789ABCDEF";
 static uint8_t telling_byte(struct draft *d)
 {
     static const uint8_t bytes[] = {
-        0x00, 0x01, 0x02, 0x03, 0x0F, 0x10, 0x1E, 0x1F, 0x20, 0x28, 0x2A, 0x2C, 0x2E, 0x30, 0x38, 0x39, 0x3A, 0x3F, 0x40, 0x41,
-        0x42, 0x43, 0x7F, 0x80, 0x81, 0x82, 0x83, 0xB2, 0xB3, 0xC0, 0xC1, 0xC2, 0xC3, 0xFE, 0xFF
+        0x00, 0x01, 0x02, 0x03, 0x04, 0x05, 0x06, 0x07, 0x0B, 0x0C, 0x0E, 0x0F, 0x10, 0x14, 0x1E, 0x1F, 0x20, 0x28, 0x2A, 0x2C, 0x2E,
+        0x30, 0x38, 0x39, 0x3A, 0x3F, 0x40, 0x41, 0x42, 0x43, 0x44, 0x47, 0x7F, 0x80, 0x81, 0x82, 0x83, 0x86, 0xB2, 0xB3, 0xC0, 0xC1,
+        0xC2, 0xC3, 0xC4, 0xC6, 0xC7, 0xFE, 0xFF
     };
 
     return below(d, 4) > 0 ? bytes[below(d, sizeof bytes)] : (uint8_t)below(d, 256);
@@ -534,7 +535,7 @@ static void resize_field(struct draft *d)
 static void change_tries(struct draft *d)
 {
     static const unsigned edges[] = { 0, 1, 2, 127, 128, 129, 255, 256, 65535, 65536 };
-    struct part line = line_at(d, below(d, 3)), value = up_to(d, line.from, '\t');
+    struct part line = line_at(d, below(d, CREDENTIALS)), value = up_to(d, line.from, '\t');
     unsigned limit = below(d, 2) > 0 ? edges[below(d, sizeof edges / sizeof *edges)] : below(d, 130);
     unsigned tries = below(d, 2) > 0 ? limit : below(d, 2) > 0 ? below(d, limit + 1) : limit + 1;
     char fields[32];
@@ -736,6 +737,14 @@ static unsigned any_right(struct draft *d)
     return rights[below(d, sizeof rights)];
 }
 
+/* Of a file: now and then with bit 3, which is bad with 0F alone and where nothing is left to choose from. */
+static unsigned any_file_right(struct draft *d)
+{
+    unsigned right = any_right(d);
+
+    return below(d, 3) == 0 && (right != 0x0F || below(d, 8) == 0) ? right ^ 0x04 : right;
+}
+
 /* A file with as many bytes as its line says, sound as a rule. */
 static void add_file(struct draft *d)
 {
@@ -762,7 +771,7 @@ static void add_file(struct draft *d)
         newest = below(d, size1);
     any_home(d, home);
     int head = snprintf(text, HEAD, "%04X\t%02X%02X%02X%02X%02X\t%u\t%u\t%s\n", 0x0100 + 1 + below(d, 30), type, size1, size2,
-                        any_right(d), any_right(d), counted, newest, home);
+                        any_file_right(d), any_file_right(d), counted, newest, home);
     struct part place = between_blocks(d);
     for (int i = 0; i < 4 && place.from + FOLDER_LENGTH <= d->size && d->at[place.from + FOLDER_LENGTH - 1] == '\n'; i++)
         place.from = place.to = place.from + FOLDER_LENGTH; /* behind the folders */
@@ -957,7 +966,7 @@ static void with_longest_text(struct held *h)
     char command[64];
 
     o.admin_pin = o.user_pin = given_text("9876543210987654");
-    o.device_limit = o.admin_limit = o.user_limit = 128;
+    o.device_limit = o.admin_limit = o.user_limit = o.transport_limit = 128;
     if (watched_issue(h, &o) != LIMPET_OK)
         stop("the longest text", "a good order is refused");
     told(h, "00 84 0000 10");

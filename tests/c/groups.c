@@ -101,6 +101,14 @@ static const char *const commands[] = {
     "00 24 0101 06 363534333231",
     "00 C0 0000 00",
     "00 C0 0000 02",
+    "04 D6 8100 06 A1A2 *",
+    "04 D6 8100 0F A0A1A2A3A4A5A6A7A8A9AA *", /* a message of 16 bytes */
+    "04 B0 8200 04 * 02",                     /* the code is right, and its file is not of that type or is not there */
+    "04 D6 8100 04 *",                        /* 6700 */
+    "04 B0 8100 04 * 01",
+    "04 E2 0018 08 C7C7C7C7 *",
+    "04 DC 0114 09 C8C8C8C8C8 00000000",
+    "04 B2 011C 04 * 00",
     "",
 };
 enum { COMMANDS = sizeof commands / sizeof commands[0] };

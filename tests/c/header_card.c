@@ -24,7 +24,8 @@ int main(void)
         return 1;
     if (limpet_reset(card, area, sizeof area) != LIMPET_UNSOUND)
         return 2;
-    if (limpet_issue(card, area, sizeof area, key, sizeof key, 3, pin, sizeof pin, 3, pin, sizeof pin, 3, 1) != LIMPET_OK)
+    if (limpet_issue(card, area, sizeof area, key, sizeof key, 3, pin, sizeof pin, 3, pin, sizeof pin, 3, 1, key, sizeof key, 3)
+        != LIMPET_OK)
         return 3;
     if (limpet_command(card, area, sizeof area, query, sizeof query, random_input, sizeof random_input,
                        reply, sizeof reply, &count) != LIMPET_OK)

@@ -73,8 +73,11 @@ static struct given given_field(struct bytes f)
 static uint8_t issue(struct driven *d, const struct line *l)
 {
     struct order o = {
-        given_of(&l->key), given_field(l->admin_pin), given_field(l->user_pin),
-        l->device_limit, l->admin_limit, l->user_limit, l->mode
+        .key = given_of(&l->key), .device_limit = l->device_limit,
+        .admin_pin = given_field(l->admin_pin), .admin_limit = l->admin_limit,
+        .user_pin = given_field(l->user_pin), .user_limit = l->user_limit,
+        .mode = l->mode,
+        .transport_key = given_of(&l->transport_key), .transport_limit = l->transport_limit
     };
     struct lent earlier = d->held.card;
 

@@ -16,6 +16,9 @@ static const struct {
     { offsetof(struct layout, credentials[USER]), "user PIN" },
     { offsetof(struct layout, credentials[USER].length), "user PIN's length" },
     { offsetof(struct layout, credentials[USER].tries), "user tries and limit" },
+    { offsetof(struct layout, credentials[TRANSPORT]), "transport key" },
+    { offsetof(struct layout, credentials[TRANSPORT].length), "transport key's length" },
+    { offsetof(struct layout, credentials[TRANSPORT].tries), "transport tries and limit" },
     { offsetof(struct layout, directory.files), "files" },
     { offsetof(struct layout, directory.count), "number of files" },
     { offsetof(struct layout, directory.folders), "directories" },
@@ -71,18 +74,30 @@ static bool sound_value(const struct credential *x, bool key)
     return are_zero(x->value, x->length, VALUE_ROOM);
 }
 
+static bool is_key(size_t credential)
+{
+    return credential == DEVICE || credential == TRANSPORT;
+}
+
 static bool sound_credentials(const struct layout *c)
 {
     for (size_t i = 0; i < CREDENTIALS; i++)
-        if (!sound_value(&c->credentials[i], i == DEVICE) || !sound_tries(c->credentials[i].tries, c->session.rights[i]))
+        if (!sound_value(&c->credentials[i], is_key(i))
+            || !sound_tries(c->credentials[i].tries, i < RIGHTS ? c->session.rights[i] : 0))
             return false;
     return true;
 }
 
-/* 0F, or some of the three rights, with bit 2 where one of them is enough: "bit 2 alone is bad". */
-static bool good_rights(uint8_t rights)
+/* 0F, or some of the three rights, with bit 2 where one of them is enough: "bit 2 alone is bad". A folder's creation right. */
+static bool good_right(uint8_t right)
 {
-    return rights == 0x0F || ((rights & ~0xC3) == 0 && rights != 0x02);
+    return right == 0x0F || ((right & ~0xC3) == 0 && right != 0x02);
+}
+
+/* "A file's right, not a directory's, may ask for codes by bit 3, except in 0F", and "bits 2 and 3 alone are bad". */
+static bool good_file_right(uint8_t right)
+{
+    return good_right(right) || good_right(right & ~0x04);
 }
 
 unsigned file_size(const struct file *f)
@@ -150,7 +165,7 @@ static bool good_fid(uint8_t fid2)
 
 static bool sound_file(const struct file *f)
 {
-    return good_fid(f->fid2) && file_size(f) > 0 && sound_held(f) && good_rights(f->read) && good_rights(f->write);
+    return good_fid(f->fid2) && file_size(f) > 0 && sound_held(f) && good_file_right(f->read) && good_file_right(f->write);
 }
 
 /* "A directory's FID differs from all other directories and from all root files"; two files differ in their SFI within a folder. */
@@ -165,7 +180,7 @@ static bool sound_folders(const struct directory *d)
         return false;
     for (size_t i = 0; i < d->number; i++) {
         const struct folder *f = &d->folders[i];
-        if (!good_fid(f->fid2) || !good_rights(f->right))
+        if (!good_fid(f->fid2) || !good_right(f->right))
             return false;
         for (size_t j = 0; j < i; j++)
             if (same_fid(f->fid1, f->fid2, d->folders[j].fid1, d->folders[j].fid2))

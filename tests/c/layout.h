@@ -1,9 +1,9 @@
 /*
  * The bytes of a card, for tests alone: a caller has no business there. They
  * lie as the structs of crates/rules and crates/files have them. And what
- * document 01, "What a card holds", and requests R-1 and R-5 to R-7 of document
- * 02 say of them. A directory of R-7 is a folder here, since the table of all
- * files is the directory.
+ * document 01, "What a card holds", and requests R-1, R-5 to R-7 and R-9 of
+ * document 02 say of them. A directory of R-7 is a folder here, since the table of
+ * all files is the directory.
  */
 #ifndef LAYOUT_H
 #define LAYOUT_H
@@ -16,8 +16,8 @@
 
 enum { FILES = 16, FOLDERS = 4, VALUE_ROOM = 16, CHALLENGE_ROOM = 16, WAITING_ROOM = 256 };
 
-/* The credentials' numbers. */
-enum { DEVICE, ADMIN, USER, CREDENTIALS };
+/* The credentials' numbers. The last opens no right, so the rights are those before it. */
+enum { DEVICE, ADMIN, USER, TRANSPORT, CREDENTIALS, RIGHTS = TRANSPORT };
 
 struct tries {
     uint8_t left, limit;
@@ -53,7 +53,7 @@ struct directory {
 
 /* A right is 1 where it is held and 0 where not; the current file is its place plus one, and so is the current folder. */
 struct session {
-    uint8_t rights[CREDENTIALS];
+    uint8_t rights[RIGHTS];
     uint8_t current;
     uint8_t challenge[CHALLENGE_ROOM];
     uint8_t length;
@@ -77,7 +77,7 @@ _Static_assert(sizeof(struct layout) == LIMPET_CARD_SIZE, "the card is laid out 
 _Static_assert(_Alignof(struct layout) == 1, "the card has to be aligned");
 
 /* Which field the byte at that place belongs to, and its name, for reports. */
-enum { FIELDS = 21 };
+enum { FIELDS = 24 };
 size_t field_at(size_t place);
 const char *field_name(size_t field);
 

@@ -22,7 +22,8 @@ static void issue(struct player *p, const struct line *l)
     uint8_t outcome = limpet_issue((struct limpet_card *)p->issued, p->area, sizeof p->area,
                                    l->key.at, l->key.len, l->device_limit,
                                    l->admin_pin.at, l->admin_pin.len, l->admin_limit,
-                                   l->user_pin.at, l->user_pin.len, l->user_limit, l->mode);
+                                   l->user_pin.at, l->user_pin.len, l->user_limit, l->mode,
+                                   l->transport_key.at, l->transport_key.len, l->transport_limit);
 
     p->calls++;
     if (outcome == LIMPET_OK) {

@@ -176,14 +176,14 @@ static void issue_areas(void)
 
 static void issue_lengths(void)
 {
-    struct group g = begin("issue: length of the key and of each PIN, 0 to 64");
+    struct group g = begin("issue: length of each key and of each PIN, 0 to 64");
     uint8_t digits[64];
 
     memset(digits, '7', sizeof digits);
     for (size_t n = 0; n <= sizeof digits; n++)
-        for (int which = 0; which < 3; which++) {
+        for (int which = 0; which < 4; which++) {
             struct order o = good_order();
-            struct given *of[] = { &o.key, &o.admin_pin, &o.user_pin };
+            struct given *of[] = { &o.key, &o.admin_pin, &o.user_pin, &o.transport_key };
             *of[which] = given_bytes(digits, n);
             issue_order(&o);
         }
@@ -194,12 +194,12 @@ static void issue_nulls(void)
 {
     struct group g = begin("issue: null pointers with length 0");
 
-    for (unsigned choice = 1; choice < 16; choice++) {
+    for (unsigned choice = 1; choice < 32; choice++) {
         struct order o = good_order();
-        struct given *of[] = { &o.key, &o.admin_pin, &o.user_pin };
-        struct held h = hold(in_use()->card, choice & 8 ? 0 : LIMPET_AREA_SIZE);
-        h.has_no_area = (choice & 8) != 0;
-        for (int which = 0; which < 3; which++)
+        struct given *of[] = { &o.key, &o.admin_pin, &o.user_pin, &o.transport_key };
+        struct held h = hold(in_use()->card, choice & 16 ? 0 : LIMPET_AREA_SIZE);
+        h.has_no_area = (choice & 16) != 0;
+        for (int which = 0; which < 4; which++)
             if (choice >> which & 1)
                 *of[which] = (struct given){ NULL, 0, true };
         call_number++;
@@ -214,9 +214,9 @@ static void issue_limits(void)
     struct group g = begin("issue: each limit, 0 to 65,535");
 
     for (unsigned limit = 0; limit <= 65535; limit += is_short && limit >= 300 && limit < 65000 ? 317 : 1)
-        for (int which = 0; which < 3; which++) {
+        for (int which = 0; which < 4; which++) {
             struct order o = good_order();
-            uint16_t *of[] = { &o.device_limit, &o.admin_limit, &o.user_limit };
+            uint16_t *of[] = { &o.device_limit, &o.admin_limit, &o.user_limit, &o.transport_limit };
             *of[which] = (uint16_t)limit;
             issue_over(in_use()->card, LIMPET_AREA_SIZE, &o);
         }
@@ -255,11 +255,32 @@ static void issue_digits(void)
     end(g);
 }
 
+/* A key has any bytes: of one value, and each value at each place of the transport key. */
+static void issue_keys(void)
+{
+    struct group g = begin("issue: every byte in the keys");
+
+    for (unsigned byte = 0; byte < 256; byte += is_short ? 5 : 1) {
+        uint8_t key[LIMPET_KEY_SIZE];
+        struct order o = good_order();
+        memset(key, (int)byte, sizeof key);
+        o.key = o.transport_key = given_bytes(key, sizeof key);
+        issue_over(in_use()->card, LIMPET_AREA_SIZE, &o);
+        for (size_t place = 0; place < sizeof key; place++) {
+            memset(key, 0x5C, sizeof key);
+            key[place] = (uint8_t)byte;
+            o.transport_key = given_bytes(key, sizeof key);
+            issue_over(in_use()->card, LIMPET_AREA_SIZE, &o);
+        }
+    }
+    end(g);
+}
+
 static void issue_precedence(void)
 {
     struct group g = begin("issue: several wrong at once");
 
-    for (unsigned choice = 0; choice < 256; choice++) {
+    for (unsigned choice = 0; choice < 1024; choice++) {
         struct order o = good_order();
         if (choice & 1)
             o.key.length = 15;
@@ -275,7 +296,11 @@ static void issue_precedence(void)
             o.user_limit = 65535;
         if (choice & 64)
             o.mode = 2;
-        issue_over(in_use()->card, choice & 128 ? 4095 : LIMPET_AREA_SIZE, &o);
+        if (choice & 128)
+            o.transport_key = given_text("seventeen letters");
+        if (choice & 256)
+            o.transport_limit = 129;
+        issue_over(in_use()->card, choice & 512 ? 4095 : LIMPET_AREA_SIZE, &o);
     }
     end(g);
 }
@@ -295,6 +320,7 @@ static void refuse_all(void)
     issue_limits();
     issue_modes();
     issue_digits();
+    issue_keys();
     issue_precedence();
     try_spoiled_cards();
     try_wrong_areas();

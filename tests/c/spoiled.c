@@ -54,8 +54,8 @@ void try_each_byte_spoiled(void)
 /* Up to five bytes spoiled at once, by small steps or values that mean something elsewhere, or bytes of another card. */
 static void spoil_several(uint8_t *card, const uint8_t *other)
 {
-    static const uint8_t values[] = { 0, 1, 4, 8, 16, 0x28, 0x2A, 0x2C, 0x2E, 0x30, 0x39, 0x0F, 0x02, 0x03, 0x80, 0xC1, 0xC2,
-                                      254, 255 };
+    static const uint8_t values[] = { 0, 1, 4, 8, 16, 0x28, 0x2A, 0x2C, 0x2E, 0x30, 0x39, 0x0F, 0x02, 0x03, 0x05, 0x06, 0x44, 0x80,
+                                      0xC1, 0xC2, 0xC6, 254, 255 };
     static const uint32_t before_waiting = offsetof(struct layout, response.bytes);
 
     for (uint32_t n = 1 + random_below(5); n > 0; n--) {
@@ -93,6 +93,14 @@ static void cards_with_several(void)
     print_tally("up to five", &t);
 }
 
+static bool is_among(const uint8_t *bytes, size_t count, unsigned byte)
+{
+    for (size_t i = 0; i < count; i++)
+        if (bytes[i] == byte)
+            return true;
+    return false;
+}
+
 /* 0F, and with and without bit 2 the seven choices of admin, user and device; 00 is free. All others are bad, bit 2 alone too. */
 static bool is_good_by_hand(unsigned rights)
 {
@@ -100,10 +108,17 @@ static bool is_good_by_hand(unsigned rights)
         0x00, 0x0F, 0x80, 0x40, 0x01, 0xC0, 0x81, 0x41, 0xC1, 0x82, 0x42, 0x03, 0xC2, 0x83, 0x43, 0xC3
     };
 
-    for (size_t i = 0; i < sizeof good; i++)
-        if (good[i] == rights)
-            return true;
-    return false;
+    return is_among(good, sizeof good, rights);
+}
+
+/* Those of a file: the same, and with bit 3 all of them but 0F, which is there, and 06, which has no right to choose from. */
+static bool is_good_of_file_by_hand(unsigned rights)
+{
+    static const uint8_t with_bit_3[] = {
+        0x04, 0x84, 0x44, 0x05, 0xC4, 0x85, 0x45, 0xC5, 0x86, 0x46, 0x07, 0xC6, 0x87, 0x47, 0xC7
+    };
+
+    return is_good_by_hand(rights) || is_among(with_bit_3, sizeof with_bit_3, rights);
 }
 
 /* Each byte for reading and for writing, in the first file and in the last. The C check is held to the list as well. */
@@ -121,13 +136,154 @@ static void rights_by_hand(void)
             *(choice & 2 ? &f->write : &f->read) = (uint8_t)rights;
             memcpy(p.card, &c, sizeof c);
             call_number++;
-            if (is_sound(p.card, p.area) != is_good_by_hand(rights))
-                wrong("tests/c/layout.c says of %02X that it is %s", rights, is_good_by_hand(rights) ? "bad" : "good");
+            if (is_sound(p.card, p.area) != is_good_of_file_by_hand(rights))
+                wrong("tests/c/layout.c says of %02X that it is %s", rights, is_good_of_file_by_hand(rights) ? "bad" : "good");
             count_card(&t, &p);
             try_card(&p, !is_short);
         }
     end(g);
     print_tally("all of them", &t);
+}
+
+/* ---- the transport key (R-9) ---- */
+
+/* Its length, its limit and its tries left, on a card with all rights: it opens none, so a held right asks nothing of its tries. */
+static const struct {
+    unsigned length, limit, left;
+    bool sound;
+} known_transport_keys[] = {
+    { 16, 10, 10, true },
+    { 16, 10, 9, true },
+    { 16, 10, 0, true },     /* blocked for good */
+    { 16, 10, 11, false },   /* more left than there are */
+    { 16, 10, 255, false },
+    { 16, 1, 1, true },      /* the smallest limit, */
+    { 16, 1, 0, true },
+    { 16, 1, 2, false },
+    { 16, 0, 0, false },     /* and none at all */
+    { 16, 0, 1, false },
+    { 16, 128, 128, true },  /* the largest, */
+    { 16, 128, 1, true },
+    { 16, 128, 129, false },
+    { 16, 129, 129, false }, /* and one more */
+    { 16, 129, 1, false },
+    { 16, 255, 255, false },
+    { 0, 10, 10, false },    /* no key, */
+    { 0, 0, 0, false },      /* and none of the fourth credential */
+    { 4, 10, 10, false },
+    { 6, 10, 10, false },    /* the lengths of PINs */
+    { 8, 10, 10, false },
+    { 15, 10, 10, false },
+    { 17, 10, 10, false },
+    { 32, 10, 10, false },
+    { 255, 10, 10, false },
+};
+
+/* With the key as it is, of 00, of FF and with 00 at its end: its bytes may be any. */
+static void transport_keys_by_hand(void)
+{
+    struct group g = begin("transport keys of which it was worked out by hand whether they are sound");
+    struct tally t = { 0 };
+
+    for (size_t i = 0; i < sizeof known_transport_keys / sizeof known_transport_keys[0]; i++)
+        for (unsigned value = 0; value < 4; value++) {
+            struct pattern p = patterns[WITH_RIGHTS];
+            struct credential *x = &((struct layout *)(void *)p.card)->credentials[TRANSPORT];
+            x->length = (uint8_t)known_transport_keys[i].length;
+            x->tries = (struct tries){ .left = (uint8_t)known_transport_keys[i].left, .limit = (uint8_t)known_transport_keys[i].limit };
+            if (value > 0)
+                memset(x->value + (value == 3 ? 8 : 0), value == 2 ? 0xFF : 0, VALUE_ROOM - (value == 3 ? 8 : 0));
+            call_number++;
+            if (is_sound(p.card, p.area) != known_transport_keys[i].sound)
+                wrong("tests/c/layout.c says that length %u, limit %u and %u left are %s", known_transport_keys[i].length,
+                      known_transport_keys[i].limit, known_transport_keys[i].left, known_transport_keys[i].sound ? "not sound" : "sound");
+            count_card(&t, &p);
+            try_card(&p, true);
+        }
+    end(g);
+    print_tally("all of them", &t);
+}
+
+/* As it is; with a challenge and without, with no tries left and with one, without rights and with all of them. */
+enum { STATES = 7 };
+static struct pattern in_state(const struct pattern *p, unsigned state)
+{
+    struct pattern changed = *p;
+    struct layout c;
+
+    memcpy(&c, p->card, sizeof c);
+    if (state > 0)
+        memset(c.session.challenge, 0, sizeof c.session.challenge);
+    c.session.length = (uint8_t)(state == 0 ? c.session.length : state == 2 || state == 6 ? 0 : 8);
+    memset(c.session.challenge, 0xA9, state > 0 ? c.session.length : 0);
+    if (state >= 3)
+        c.credentials[TRANSPORT].tries.left = state == 3 || state == 6 ? 0 : 1;
+    for (size_t i = 0; i < RIGHTS && state >= 4; i++) {
+        c.session.rights[i] = state == 5;
+        c.credentials[i].tries.left = c.credentials[i].tries.limit;
+    }
+    memcpy(changed.card, &c, sizeof c);
+    return changed;
+}
+
+static void tell_again(const struct pattern *p, const char *command)
+{
+    struct held h = hold_part(p, LIMPET_AREA_SIZE);
+
+    call_number++;
+    tell(&h, command);
+    let_go(&h);
+}
+
+/* Each of the five commands by each SFI, with a right code and a wrong one, and commands of other forms. */
+static void every_coded(void)
+{
+    static const char *const forms[] = {
+        "04 B0 8100 04 *", "04 B0 8100 05 A1 * 01", "04 B0 8100 03 A1A2A3 01", "04 B0 8100", "04 B0 8100 01", "04 B0 8000 04 * 01",
+        "04 B0 9F00 04 * 01", "04 B0 FF00 04 * 01", "04 B0 0000 04 * 00", "04 B0 7FFF 04 * 00", "04 B0 8100 04 * 01 00",
+        "04 D6 8100 04 *", "04 D6 8100 06 A1A2 * 00", "04 D6 8100 05 A1 * 00 00", "04 D6 8100", "04 D6 8100 01", "04 D6 A000 05 A1 *",
+        "04 D6 0000 05 A1 *", "04 B2 0014 04 * 00", "04 B2 0113 04 * 00", "04 B2 01FC 04 * 00", "04 B2 FF14 04 * 00", "04 B2 0104 04 * 00",
+        "04 B2 0114 04 *", "04 DC 0014 05 A1 *", "04 DC 0114 04 *", "04 DC 0114 05 A1 * 00", "04 DC 0104 05 A1 *", "04 E2 0118 05 A1 *",
+        "04 E2 001C 05 A1 *", "04 E2 00F8 05 A1 *", "04 E2 0018 04 *", "04 E2 0018 05 A1 * 00", "04 E2 0000 05 A1 *", "04 A4 0000 02 0101",
+        "04 20 0001", "04 84 0000 08", "04 82 0000 04 *", "04 24 0101 06 363534333231", "04 2C 0201 06 363534333231", "04 C0 0000 00",
+        "04 E0 0110 05 28 0001 00 00", "84 B0 8100 04 * 01", "05 B0 8100 04 * 01", "0C B0 8100 04 * 01", "14 D6 8100 05 A1 *",
+        "80 B0 8100 04 * 01", "00 B0 8100 04 * 01", "00 D6 8100 05 A1 *"
+    };
+    static const char *const by_sfi[] = {
+        "04 B0 %02X00 04 * 01", "04 B0 %02X00 04 00000000 01", "04 D6 %02X00 05 A1 *", "04 D6 %02X00 05 A1 00000000", "00 B0 %02X00 01",
+        "00 D6 %02X00 01 A1"
+    };
+    static const char *const by_number[] = {
+        "04 B2 01%02X 04 * 00", "04 B2 01%02X 04 00000000 00", "04 DC 01%02X 08 A1A2A3A4 *", "04 DC 01%02X 09 A1A2A3A4A5 *",
+        "00 B2 01%02X 00", "00 DC 01%02X 04 A1A2A3A4"
+    };
+    static const char *const by_append[] = { "04 E2 00%02X 08 A1A2A3A4 *", "04 E2 00%02X 08 A1A2A3A4 00000000", "00 E2 00%02X 04 A1A2A3A4" };
+    struct group g = begin("coded commands in every form, on each card in use, with and without challenge, tries and rights");
+    char command[64];
+
+    for (size_t i = 0; i < SORTS; i++)
+        for (unsigned state = 0; state < STATES; state++) {
+            struct pattern p = in_state(&patterns[i], state);
+            if (is_short && i != WITH_CODES && state != i % STATES)
+                continue;
+            for (size_t n = 0; n < sizeof forms / sizeof forms[0]; n++)
+                tell_again(&p, forms[n]);
+            for (unsigned sfi = 0; sfi <= 8; sfi++) {
+                for (size_t n = 0; n < sizeof by_sfi / sizeof by_sfi[0]; n++) {
+                    snprintf(command, sizeof command, by_sfi[n], sfi == 0 ? 0 : 0x80 + sfi);
+                    tell_again(&p, command);
+                }
+                for (size_t n = 0; n < sizeof by_number / sizeof by_number[0]; n++) {
+                    snprintf(command, sizeof command, by_number[n], 8 * sfi + 4);
+                    tell_again(&p, command);
+                }
+                for (size_t n = 0; n < sizeof by_append / sizeof by_append[0]; n++) {
+                    snprintf(command, sizeof command, by_append[n], 8 * sfi);
+                    tell_again(&p, command);
+                }
+            }
+        }
+    end(g);
 }
 
 /* ---- directories (R-7) ---- */
@@ -585,6 +741,8 @@ void try_spoiled_cards(void)
 {
     cards_with_several();
     rights_by_hand();
+    transport_keys_by_hand();
+    every_coded();
     folders_by_hand();
     folder_bytes_by_hand();
     folders_at_random();

@@ -25,7 +25,7 @@ static void usage(FILE *to)
           "\n"
           "Plays the calls of a script, and after each line writes and reads the card as a\n"
           "text, and converts it into the other form and back. Prints the most bytes of stack\n"
-          "that each kind of call took, and those of limpet_aes128.\n", to);
+          "that each kind of call took, and those of limpet_aes128 and limpet_code.\n", to);
 }
 
 static void play_apart(void)
@@ -39,6 +39,15 @@ static void encipher_apart(void)
     static uint8_t out[LIMPET_AES128_SIZE];
 
     limpet_aes128(zeros, sizeof zeros, zeros, sizeof zeros, out, sizeof out);
+}
+
+/* The stack does not depend on the message; this one has all that the longest command has. */
+static void code_apart(void)
+{
+    static const uint8_t zeros[5 + 251];
+    static uint8_t code[LIMPET_CODE_SIZE];
+
+    limpet_code(zeros, LIMPET_KEY_SIZE, zeros, LIMPET_RANDOM_SIZE, zeros, sizeof zeros, code, sizeof code);
 }
 
 static uint8_t text[LIMPET_TEXT_SIZE];
@@ -141,5 +150,6 @@ int main(int count, char **arguments)
     printf("%zu bytes of stack: text_to_old\n", most_to_old);
     printf("%zu bytes of stack: text_to_new\n", most_to_new);
     printf("%zu bytes of stack: aes128\n", stack_of(encipher_apart));
+    printf("%zu bytes of stack: code\n", stack_of(code_apart));
     return EXIT_SUCCESS;
 }

@@ -34,5 +34,7 @@ int main(void)
     hold("DONE", 0x9000, LIMPET_SW_DONE, 0x9000);
     hold("NO_RIGHT", 0x6982, LIMPET_SW_NO_RIGHT, 0x6982);
     hold("BLOCKED", 0x6983, LIMPET_SW_BLOCKED, 0x6983);
+    hold("NO_CHALLENGE", 0x6984, LIMPET_SW_NO_CHALLENGE, 0x6984);
+    hold("WRONG_CODE", 0x6988, LIMPET_SW_WRONG_CODE, 0x6988);
     return wrong;
 }

@@ -21,7 +21,7 @@
 #include "watched.h"
 
 enum {
-    MOST_FIELDS = 7,
+    MOST_FIELDS = 9,
     MOST_TALLIES = 100,
     MOST_SHOWN_TEXTS = 3,
     LONGEST_AREA = 2 * LIMPET_AREA_SIZE,
@@ -88,6 +88,7 @@ static size_t fields_of(int letter)
 {
     switch (letter) {
     case 'I':
+        return 9;
     case 'N':
     case 'O':
     case 'n':
@@ -389,11 +390,15 @@ static uint16_t number_of(struct bytes b)
     return (uint16_t)(b.at[0] | b.at[1] << 8);
 }
 
-static void issue(struct run *r, const struct bytes fields[7])
+/* The fields of an ISSUE line. */
+static void issue(struct run *r, const struct bytes fields[9])
 {
     struct order o = {
-        given_of(fields[0]), given_of(fields[2]), given_of(fields[4]),
-        number_of(fields[1]), number_of(fields[3]), number_of(fields[5]), number_of(fields[6])
+        .key = given_of(fields[0]), .device_limit = number_of(fields[1]),
+        .admin_pin = given_of(fields[2]), .admin_limit = number_of(fields[3]),
+        .user_pin = given_of(fields[4]), .user_limit = number_of(fields[5]),
+        .mode = number_of(fields[6]),
+        .transport_key = given_of(fields[7]), .transport_limit = number_of(fields[8])
     };
 
     if (watched_issue(&r->first, &o) != LIMPET_OK)

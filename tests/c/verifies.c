@@ -1,7 +1,8 @@
 /*
  * Wrong presentations that differ in one thing, the place of the byte that is
- * wrong, for a run under callgrind that counts the instructions of each call
- * of limpet_command: count_instructions of tools/x86/common.sh.
+ * wrong, for a run that counts the instructions of each call of limpet_command:
+ * count_instructions of tools/x86/common.sh. A code is one too, of the transport
+ * key.
  *
  * Prints a line for each such call, in order: what is presented, and the place
  * of the wrong byte. Before each call the card is set back, so that it is the
@@ -12,10 +13,11 @@
 #include <stdlib.h>
 #include <string.h>
 
+#include "coded.h"
 #include "fips.h"
 #include "limpetnook.h"
 
-enum { LONGEST = 16, HEAD = 5 };
+enum { LONGEST = 16, HEAD = 5, MOST_CODED = HEAD + 255 };
 
 static uint8_t card[LIMPET_CARD_SIZE], kept[LIMPET_CARD_SIZE];
 static uint8_t area[LIMPET_AREA_SIZE];
@@ -39,7 +41,7 @@ static void command(const uint8_t *bytes, size_t length, unsigned due)
 static void issue(size_t pin_length)
 {
     if (limpet_issue((struct limpet_card *)card, area, sizeof area, c1_key, sizeof c1_key, 100,
-                     pin, pin_length, 100, pin, pin_length, 100, 0) != LIMPET_OK) {
+                     pin, pin_length, 100, pin, pin_length, 100, 0, c1_cryptogram, sizeof c1_cryptogram, 100) != LIMPET_OK) {
         fprintf(stderr, "verifies: a good order is refused\n");
         exit(EXIT_FAILURE);
     }
@@ -66,15 +68,61 @@ static void present(const char *name, const uint8_t *head, const uint8_t *value,
     }
 }
 
+/* A step before a presentation: it has a line too, and its count is of no interest. */
+static void step(const uint8_t *bytes, size_t length)
+{
+    printf("step - - -\n");
+    command(bytes, length, 0x9000);
+}
+
 static void present_cryptogram(void)
 {
     static const uint8_t head[] = { 0x00, 0x82, 0x00, 0x00 };
     static const uint8_t get_challenge[] = { 0x00, 0x84, 0x00, 0x00, 0x10 };
 
-    printf("challenge - - -\n");
-    command(get_challenge, sizeof get_challenge, 0x9000);
+    step(get_challenge, sizeof get_challenge);
     memcpy(kept, card, sizeof kept);
     present("cryptogram", head, c1_cryptogram, sizeof c1_cryptogram);
+}
+
+/* A binary file that asks for codes to be read and written. */
+static void make_file(void)
+{
+    static const uint8_t get_challenge[] = { 0x00, 0x84, 0x00, 0x00, 0x10 };
+    static const uint8_t create[] = { 0x80, 0xE0, 0x01, 0x01, 0x05, 0x28, 0x01, 0x00, 0x04, 0x04 };
+    uint8_t login[HEAD + LONGEST] = { 0x00, 0x82, 0x00, 0x00, LONGEST };
+
+    memcpy(login + HEAD, c1_cryptogram, LONGEST);
+    step(get_challenge, sizeof get_challenge);
+    step(login, sizeof login);
+    step(create, sizeof create);
+    step(get_challenge, sizeof get_challenge);
+    memcpy(kept, card, sizeof kept);
+}
+
+/* A coded command: its head, so many bytes of data, and Le where it is a read. The right code, and then with each bit of it wrong. */
+static void present_code(const char *name, uint8_t ins, size_t data, bool is_read)
+{
+    uint8_t sent[MOST_CODED + 1] = { 0x04, ins, 0x81, 0x00, (uint8_t)(data + LIMPET_CODE_SIZE) };
+    uint8_t *code = sent + HEAD + data;
+    size_t length = HEAD + data + LIMPET_CODE_SIZE + is_read;
+
+    memset(sent + HEAD, 0x2A, data);
+    code_of(c1_cryptogram, c1_block, sizeof c1_block, sent, HEAD + data, code);
+    if (is_read)
+        sent[length - 1] = 0x10;
+    for (int bit = -1; bit < 8 * LIMPET_CODE_SIZE; bit++) {
+        if (bit < 0)
+            printf("%s %d right -\n", name, LIMPET_CODE_SIZE);
+        else
+            printf("%s %d wrong %d\n", name, LIMPET_CODE_SIZE, bit / 8);
+        if (bit >= 0)
+            code[bit / 8] ^= (uint8_t)(1 << bit % 8);
+        memcpy(card, kept, sizeof card);
+        command(sent, length, bit < 0 ? 0x9000 : 0x6988);
+        if (bit >= 0)
+            code[bit / 8] ^= (uint8_t)(1 << bit % 8);
+    }
 }
 
 int main(void)
@@ -89,5 +137,9 @@ int main(void)
     }
     issue(LONGEST);
     present_cryptogram();
+    issue(LONGEST);
+    make_file();
+    present_code("code-of-read", 0xB0, 0, true);
+    present_code("code-of-update", 0xD6, 16, false);
     return EXIT_SUCCESS;
 }

@@ -5,6 +5,7 @@
 #include <stdlib.h>
 #include <string.h>
 
+#include "coded.h"
 #include "layout.h"
 
 enum { MOST_SHOWN = 20 };
@@ -161,7 +162,8 @@ static uint8_t due_of_issue(const struct held *h, const struct order *o)
         return LIMPET_BAD_AREA;
     if (o->key.length != LIMPET_KEY_SIZE || !good_limit(o->device_limit)
         || !good_pin(o->admin_pin) || !good_limit(o->admin_limit)
-        || !good_pin(o->user_pin) || !good_limit(o->user_limit) || o->mode > 1)
+        || !good_pin(o->user_pin) || !good_limit(o->user_limit) || o->mode > 1
+        || o->transport_key.length != LIMPET_KEY_SIZE || !good_limit(o->transport_limit))
         return LIMPET_BAD_ISSUE;
     return LIMPET_OK;
 }
@@ -182,6 +184,7 @@ static struct layout issued_card(const struct order *o)
     set_credential(&c.credentials[DEVICE], o->key, o->device_limit);
     set_credential(&c.credentials[ADMIN], o->admin_pin, o->admin_limit);
     set_credential(&c.credentials[USER], o->user_pin, o->user_limit);
+    set_credential(&c.credentials[TRANSPORT], o->transport_key, o->transport_limit);
     c.response.mode = (uint8_t)o->mode;
     return c;
 }
@@ -205,17 +208,20 @@ uint8_t watched_issue(struct held *h, const struct order *o)
     struct lent key = lend_given(o->key);
     struct lent admin = lend_given(o->admin_pin);
     struct lent user = lend_given(o->user_pin);
+    struct lent transport = lend_given(o->transport_key);
     uint8_t *area = kept_copy(&h->area);
 
     uint8_t outcome = limpet_issue(card_of(h), start(&h->area, h->has_no_area), h->area.length,
                                    start(&key, o->key.is_null), key.length, o->device_limit,
                                    start(&admin, o->admin_pin.is_null), admin.length, o->admin_limit,
-                                   start(&user, o->user_pin.is_null), user.length, o->user_limit, o->mode);
+                                   start(&user, o->user_pin.is_null), user.length, o->user_limit, o->mode,
+                                   start(&transport, o->transport_key.is_null), transport.length, o->transport_limit);
 
     check_outcome(outcome, due_of_issue(h, o));
     check_given("key", &key, o->key);
     check_given("admin PIN", &admin, o->admin_pin);
     check_given("user PIN", &user, o->user_pin);
+    check_given("transport key", &transport, o->transport_key);
     if (outcome == LIMPET_OK) {
         check_issued(h, o);
     } else {
@@ -226,6 +232,7 @@ uint8_t watched_issue(struct held *h, const struct order *o)
     give_back(&key);
     give_back(&admin);
     give_back(&user);
+    give_back(&transport);
     return outcome;
 }
 
@@ -321,18 +328,15 @@ static void check_due(const struct held *h, const struct answer *a, const struct
     check_area(h, d->area);
 }
 
-static bool is_frame(struct given command)
+/* What the framing refuses is none. */
+static bool is_command(struct given command, uint8_t cla, uint8_t ins)
 {
-    if (command.length < 6)
-        return command.length >= 4;
-    size_t lc = command.bytes[4];
-    return lc > 0 && (command.length == 5 + lc || command.length == 6 + lc);
+    return is_frame(command.bytes, command.length) && command.bytes[0] == cla && command.bytes[1] == ins;
 }
 
-/* What the framing refuses is none. */
 static bool is_get_response(struct given command)
 {
-    return is_frame(command) && command.bytes[0] == 0x00 && command.bytes[1] == 0xC0;
+    return is_command(command, 0x00, 0xC0);
 }
 
 /* "6A86, 6700, 6985 nothing waiting, 6C and the count when Le is over it"; 0 where it is not refused. Le 00 is over none. */
@@ -364,10 +368,10 @@ static void due_of_get_response(struct given command, struct due *d)
     set_waiting_count(r, left);
 }
 
-/* Mode 0: it is not in the list, and drops the challenge as any other command does. */
-static void due_of_unlisted(struct due *d)
+/* On a card of mode 0: refused with that word, and the challenge is dropped, as by any command. */
+static void due_of_refused(struct due *d, unsigned word)
 {
-    set_reply(d, NULL, 0, 0x6D00);
+    set_reply(d, NULL, 0, word);
     memset(d->card.session.challenge, 0, CHALLENGE_ROOM);
     d->card.session.length = 0;
 }
@@ -397,15 +401,10 @@ static void due_as_in_mode_0(struct given command, struct given random, struct h
     set_reply(d, NULL, 0, data > 0 ? 0x6100 + (unsigned)data % 256 : word);
 }
 
-static bool has_code(struct given command, uint8_t cla, uint8_t ins)
-{
-    return is_frame(command) && command.bytes[0] == cla && command.bytes[1] == ins;
-}
-
 /* Whether a CREATE FILE that ends 9000 made a folder by the type that it names: its data begin behind Lc. */
 static bool makes_folder(struct given command)
 {
-    return has_code(command, 0x80, 0xE0) && command.length == 10 && command.bytes[5] == 0x38;
+    return is_command(command, 0x80, 0xE0) && command.length == 10 && command.bytes[5] == 0x38;
 }
 
 /* A folder more: FID and right as the command says, made from the root, and "alters nothing current". */
@@ -426,7 +425,7 @@ static void check_new_file(struct given command, const struct layout *before, co
 {
     const struct file *made = &after->directory.files[before->directory.count];
 
-    if (!has_code(command, 0x80, 0xE0) || makes_folder(command) || after->directory.count != before->directory.count + 1
+    if (!is_command(command, 0x80, 0xE0) || makes_folder(command) || after->directory.count != before->directory.count + 1
         || made->fid1 != command.bytes[2] || made->fid2 != command.bytes[3] || made->folder != before->session.folder)
         wrong("a file was made that the command does not make, or elsewhere");
     if (after->session.current != after->directory.count)
@@ -480,7 +479,7 @@ static void check_folders(const struct held *h, struct given command, const stru
         wrong("no directory was made");
     if (new->count > old->count)
         check_new_file(command, &before, &after);
-    if (has_code(command, 0x00, 0xA4) && word == 0x9000)
+    if (is_command(command, 0x00, 0xA4) && word == 0x9000)
         check_selected(command, &before, &after);
     else if (after.session.folder != before.session.folder)
         wrong("the current directory is another one, and nothing was selected");
@@ -495,7 +494,7 @@ static void check_waiting(const struct held *h, struct given command, struct giv
     memcpy(&d.card, card, sizeof d.card);
     if (d.card.response.mode == 0) {
         if (is_get_response(command)) {
-            due_of_unlisted(&d);
+            due_of_refused(&d, 0x6D00); /* it is not in the list */
             check_due(h, a, &d);
         } else if (a->reply[a->count - 2] == 0x61) {
             wrong("something is to wait in mode 0");
@@ -509,6 +508,102 @@ static void check_waiting(const struct held *h, struct given command, struct giv
         check_due(h, a, &d);
         let_go(&other);
     }
+}
+
+/* Puts the rights of the files of a card in the place of another's. */
+static void set_rights(struct layout *c, const struct directory *from)
+{
+    for (size_t i = 0; i < from->count; i++) {
+        c->directory.files[i].read = from->files[i].read;
+        c->directory.files[i].write = from->files[i].write;
+    }
+}
+
+/* A right for a card that asks for no codes: without bit 3 where there is a code, and never where there is none. */
+static uint8_t right_apart(uint8_t right, bool has_code)
+{
+    if (!asks_code(right))
+        return right;
+    return has_code ? (uint8_t)(right & ~0x04) : 0x0F;
+}
+
+/*
+ * What a command must do by what it does, without its code, to the same card whose files ask for no codes: "an added condition". With a
+ * right code that condition is met and the tries are full, also where a later check refuses. Without one it is not: 6982 at the
+ * place of the right's check, as where the right is 0F.
+ */
+static void due_without_codes(struct given command, struct given random, bool has_code, struct held *other, struct due *d)
+{
+    struct directory asked = d->card.directory;
+    uint8_t plain[5 + 255];
+
+    for (size_t i = 0; i < asked.count; i++) {
+        struct file *f = &d->card.directory.files[i];
+        f->read = right_apart(f->read, has_code);
+        f->write = right_apart(f->write, has_code);
+    }
+    if (has_code) {
+        d->card.credentials[TRANSPORT].tries.left = d->card.credentials[TRANSPORT].tries.limit;
+        command = (struct given){ plain, without_code(command.bytes, command.length, plain), false };
+    }
+    memcpy(other->card.bytes, &d->card, sizeof d->card);
+    struct answer a = watched_command(other, command, random, LIMPET_REPLY_SIZE, false);
+    if (a.outcome != LIMPET_OK || a.count < 2 || a.count > LIMPET_REPLY_SIZE) {
+        wrong("the same command is refused on a card that asks for no codes");
+        return;
+    }
+    memcpy(&d->card, other->card.bytes, sizeof d->card);
+    set_rights(&d->card, &asked);
+    d->area = other->area.bytes;
+    memcpy(d->reply, a.reply, a.count);
+    d->count = a.count;
+}
+
+static bool has_file_that_asks(const struct directory *d)
+{
+    for (size_t i = 0; i < d->count; i++)
+        if (asks_code(d->files[i].read) || asks_code(d->files[i].write))
+            return true;
+    return false;
+}
+
+/* R-9 of a served command on a card of mode 0; in mode 1 it is held to that. card and area: as they were before. */
+static void check_codes(const struct held *h, struct given command, struct given random, const struct answer *a,
+                        const uint8_t *card, const uint8_t *area)
+{
+    struct due d = { .area = area };
+    bool coded = is_coded(command.bytes, command.length);
+    unsigned refusal = 0;
+
+    memcpy(&d.card, card, sizeof d.card);
+    if (coded) {
+        refusal = refusal_of_code(&d.card, command.bytes, command.length);
+        d.card.credentials[TRANSPORT].tries.left -= refusal == 0x6988;
+    } else if (is_frame(command.bytes, command.length) && command.bytes[0] == 0x04) {
+        refusal = 0x6D00;
+    }
+    if (refusal != 0) {
+        due_of_refused(&d, refusal);
+        check_due(h, a, &d);
+    } else if (coded || has_file_that_asks(&d.card.directory)) {
+        struct held other = { .card = lend(card, LIMPET_CARD_SIZE), .area = lend(area, LIMPET_AREA_SIZE) };
+        due_without_codes(command, random, coded, &other, &d);
+        check_due(h, a, &d);
+        let_go(&other);
+    }
+}
+
+/* No command but a coded one presents the transport key, and none changes its value or its limit. */
+static void check_transport_key(const struct held *h, struct given command, const uint8_t *card)
+{
+    struct layout before, after;
+
+    memcpy(&before, card, sizeof before);
+    memcpy(&after, h->card.bytes, sizeof after);
+    if (is_coded(command.bytes, command.length))
+        after.credentials[TRANSPORT].tries.left = before.credentials[TRANSPORT].tries.left;
+    if (memcmp(&after.credentials[TRANSPORT], &before.credentials[TRANSPORT], sizeof(struct credential)) != 0)
+        wrong("the transport key, its limit or its tries are others");
 }
 
 struct answer watched_command(struct held *h, struct given command, struct given random,
@@ -543,8 +638,11 @@ struct answer watched_command(struct held *h, struct given command, struct given
     check_reply(&b.reply, reply, &a);
     check_held(h, a.outcome, card, area);
     if (a.outcome == LIMPET_OK && due == LIMPET_OK && 2 <= a.count && a.count <= LIMPET_REPLY_SIZE) {
+        check_transport_key(h, command, card);
         check_folders(h, command, &a, card);
         check_waiting(h, command, random, &a, card, area);
+        if (((const struct layout *)(const void *)card)->response.mode == 0)
+            check_codes(h, command, random, &a, card, area);
     }
     free(card);
     free(area);

@@ -3,8 +3,10 @@
  * so is every byte that a call lends and the guard bytes around it. A command on
  * a card of mode 1 is held to request R-6: to the same command on the same card
  * in mode 0, and GET RESPONSE to what waits. Where a command leaves directories
- * and which one is current is held to request R-7. What is wrong is printed to
- * standard error and counted.
+ * and which one is current is held to request R-7. A command with a code is held to
+ * request R-9, and to the same command without one on a card that asks for none;
+ * the tries of the transport key are told from the command alone. What is wrong is
+ * printed to standard error and counted.
  */
 #ifndef WATCHED_H
 #define WATCHED_H
@@ -30,8 +32,8 @@ struct held {
 };
 
 struct order {
-    struct given key, admin_pin, user_pin;
-    uint16_t device_limit, admin_limit, user_limit, mode;
+    struct given key, admin_pin, user_pin, transport_key;
+    uint16_t device_limit, admin_limit, user_limit, mode, transport_limit;
 };
 
 enum { LONGEST_REPLY = 4096 };

@@ -2,18 +2,20 @@
 """What decides the addresses and the jumps of a compiled function.
 
 OBJECT is an object file or an archive for x86-64. An ARGUMENT is the name of one of the function's arguments, in their order;
-`*name` is a pointer to bytes that are secret, and every other is a number that is not. The code is followed from its entry, along
-all ways at once, through the functions of the same object that it calls, and for each register, flag and byte of the stack it is
-kept what its value comes from:
+`*name` is a pointer to bytes that are secret, and every other is a number that is not. `name=8` is a number that is 8. The code is
+followed from its entry, along all ways at once, through the functions of the same object that it calls, and for each register, flag
+and byte of the stack it is kept what its value comes from:
 
-    an address     a fixed distance from the stack pointer at the entry, or from a pointer argument
+    an address     a fixed distance from the stack pointer at the entry; or some distance from a pointer argument, fixed or by the way
+                   that was taken, which the jumps decide
     a number       arguments, and bytes read through pointers, that it was worked out from; none of them for a constant
 
 Prints a line for each conditional jump, with the arguments that decide it. Refused, each with a line that starts with the word:
 
     - a memory operand that is not at such an address
     - a jump that depends on a secret byte, or on something whose origin is not known
-    - anything that is not listed here as understood: an instruction, an operand, a jump or a call out of the object
+    - anything that is not listed here as understood: an instruction, an operand, a jump or a call out of the object. Of these calls
+      that of memcpy is understood, where it copies a number of bytes that is known
 
 The exit status is 1 where anything is refused. What the code reads through a pointer argument is taken to be secret, all of it, and
 what it writes through one not to touch its own stack, which is the caller's side of include/limpetnook.h.
@@ -50,6 +52,9 @@ COMBINING = {"and": FLAGS, "or": FLAGS, "xor": FLAGS, "add": FLAGS, "sub": FLAGS
 # By a fixed number of bits.
 SHIFTING = {"shl": FLAGS, "shr": FLAGS, "sar": FLAGS, "rol": "co", "ror": "co", "shld": FLAGS, "shrd": FLAGS}
 SINGLE = {"inc": "zsop", "dec": "zsop", "neg": FLAGS, "not": ""}
+# On whole registers of 16 bytes, the last operand worked out from all. They set no flags.
+PACKED = ["pand", "pandn", "por", "pxor", "xorps", "pshufd", "psllq", "pslldq", "psrlq", "psrldq", "punpcklbw", "punpcklwd", "punpckldq"]
+CHANGED_BY_CALLS = ["rax", "rcx", "rdx", "rsi", "rdi", "r8", "r9", "r10", "r11"] + ["xmm%d" % i for i in range(16)]
 
 
 class Refused(Exception):
@@ -58,6 +63,11 @@ class Refused(Exception):
 
 def number(*origins):
     return ("number", frozenset(origins))
+
+
+def known(name, value):
+    """An argument that has this value, as long as nothing is worked out from it."""
+    return ("number", frozenset([name]), value)
 
 
 CONSTANT = number()
@@ -77,6 +87,8 @@ def combined(*values):
 
 def joined(a, b):
     """A value that is either a or b, by the way that led there."""
+    if a[0] == b[0] == "address" and a[1] == b[1] != "stack" and a[2] != b[2]:
+        return ("address", a[1], None)
     return a if a == b else combined(a, b)
 
 
@@ -90,6 +102,11 @@ def told(names):
     for name in sorted(names):
         words.append("bytes of " + name[1:] if name[0] == "*" else name.lstrip("?"))
     return ", ".join(words) if words else "constants"
+
+
+def moved(address, by):
+    """The address so many bytes further on. Where it is by the way taken, so it is there."""
+    return (*address[:2], None if address[2] is None else address[2] + by)
 
 
 class State:
@@ -238,10 +255,10 @@ class Walk:
             raise Refused("this operand is not understood")
         displacement = int(match[1] or "0", 16)
         if match[2] == "%rip":
-            return number("?constants outside of the code")
+            return ("address", "constants", 0)
         parts = [state.read(register[1:]) for register in match.group(2, 3) if register]
         if len(parts) == 1 and match[2] and parts[0][0] == "address":
-            return ("address", parts[0][1], parts[0][2] + displacement)
+            return moved(parts[0], displacement)
         return combined(*parts)
 
     def at(self, function, place, text, state):
@@ -263,6 +280,8 @@ class Walk:
         if address[0] != "address":
             return address
         _, base, offset = address
+        if base == "constants":
+            return CONSTANT
         return state.load(offset, size) if base == "stack" else number("*" + base)
 
     def put(self, function, place, text, size, value, state):
@@ -272,6 +291,8 @@ class Walk:
             state.write(text[1:], value)
             return
         address = self.at(function, place, text, state)
+        if address[:2] == ("address", "constants"):
+            raise Refused("it writes where constants are")
         if address[:2] == ("address", "stack"):
             state.store(address[2], size, value)
 
@@ -295,6 +316,9 @@ class Walk:
                 if relocation:
                     raise Refused("a jump out of the function")
                 return [int(text, 16)]
+            if relocation and plain(relocation) == "memcpy":
+                self.copy(state)
+                return ways
             self.push(state, RETURN)
             if relocation:
                 callee = plain(relocation)
@@ -345,14 +369,19 @@ class Walk:
         for arg in args:
             if arg.startswith("%") and arg[1:] in REGISTERS:
                 size = abs(REGISTERS[arg[1:]][1])
-        if mnemonic == "movq":
-            name, size = "mov", 8
+        if mnemonic in ("movq", "movd"):
+            name, size = "mov", 8 if mnemonic == "movq" else 4
+        if mnemonic in PACKED and args[-1].startswith("%xmm"):
+            name, size = "packed", 16
         if mnemonic in ("movaps", "movups", "movdqa", "movdqu"):
             name, size = "mov", 16
         if size is None:
             raise Refused("this instruction is not understood")
 
-        if name == "mov":
+        if name == "packed":
+            state.write(args[-1][1:], self.combine(function, place, "xor", args, size, state) if mnemonic in ("pxor", "xorps")
+                        else combined(*(self.get(function, place, arg, size, state) for arg in args)))
+        elif name == "mov":
             self.put(function, place, args[1], size, self.get(function, place, args[0], size, state), state)
         elif name in ("cmp", "test"):
             value = combined(*(self.get(function, place, arg, size, state) for arg in args))
@@ -382,8 +411,22 @@ class Walk:
         value = self.get(function, place, second, size, state)
         if name in ("add", "sub") and value[0] == "address" and first.startswith("$") and size == 8:
             by = int(first[1:], 16)
-            return ("address", value[1], value[2] + (by if name == "add" else -by))
+            by -= 2 ** 64 if by >= 2 ** 63 else 0
+            return moved(value, by if name == "add" else -by)
         return combined(value, *(self.get(function, place, arg, size, state) for arg in args[:-1]))
+
+    def copy(self, state):
+        """memcpy(rdi, rsi, rdx), of which only the arguments decide what it does."""
+        to, source, count = (state.registers[name] for name in ("rdi", "rsi", "rdx"))
+        if to[0] != "address" or source[0] != "address" or len(count) < 3:
+            raise Refused("memcpy at an address, or of a number of bytes, that is not known")
+        for i in range(count[2]):
+            byte = state.load(source[2] + i, 1) if source[1] == "stack" else number("*" + source[1])
+            if to[1] == "stack":
+                state.store(to[2] + i, 1, byte)
+        for name in CHANGED_BY_CALLS:
+            state.write(name, to if name == "rax" else number("?" + name))
+        state.flags = {flag: number("?flags") for flag in FLAGS}
 
     def push(self, state, value):
         at = state.registers["rsp"]
@@ -401,11 +444,18 @@ def main():
     parser.add_argument("arguments", metavar="ARGUMENT", nargs="*")
     asked = parser.parse_args()
     path, function, arguments = asked.path, asked.function, asked.arguments
-    if len(arguments) > len(ARGUMENTS):
-        parser.error("a function has %d arguments at most" % len(ARGUMENTS))
     state = State()
-    for register, name in zip(ARGUMENTS, arguments):
-        state.registers[register] = ("address", name[1:], 0) if name.startswith("*") else number(name)
+    for i, name in enumerate(arguments):
+        if name.startswith("*"):
+            value = ("address", name[1:], 0)
+        elif "=" in name:
+            value = known(name.split("=")[0], int(name.split("=")[1]))
+        else:
+            value = number(name)
+        if i < len(ARGUMENTS):
+            state.registers[ARGUMENTS[i]] = value
+        else:
+            state.store(8 * (1 + i - len(ARGUMENTS)), 8, value)
     state.registers["rsp"] = ("address", "stack", 0)
     state.store(0, 8, RETURN)
 

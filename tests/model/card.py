@@ -1,4 +1,4 @@
-"""A second reading of document 01, with requests R-1, R-2 and R-5 to R-7 of document 02: the card, in plain Python.
+"""A second reading of document 01, with requests R-1, R-2, R-5 to R-7 and R-9 of document 02: the card, in plain Python.
 
 This model was written from the papers alone. It exists to be compared with the proved program, so it favours the
 order and the words of the papers over speed or cleverness, and shares nothing with the code that it is compared to.
@@ -103,6 +103,33 @@ if encrypt(bytes(range(16)), bytes.fromhex("00112233445566778899AABBCCDDEEFF")) 
     raise AssertionError("the model's AES-128 fails the vector of FIPS 197 C.1")
 
 # ---------------------------------------------------------------------------------------------------------------------
+# Codes on the bus (R-9)
+# ---------------------------------------------------------------------------------------------------------------------
+
+CODE_SIZE = 4
+
+
+def padded(message):
+    """80 always follows, then 00 to whole blocks: a message that fills its last block gets one block more."""
+    whole = message + b"\x80"
+    return whole + bytes(-len(whole) % 16)
+
+
+def mac(key, start, message):
+    """The last block of an AES-128 CBC MAC over the padded message, where `start` is the initial value."""
+    chained = start
+    blocks = padded(message)
+    for place in range(0, len(blocks), 16):
+        chained = encrypt(key, bytes(left ^ right for left, right in zip(chained, blocks[place:place + 16])))
+    return chained
+
+
+def code_of(key, challenge, message):
+    """The code of a message: the leftmost four bytes of its MAC. The challenge, filled with 00, is the initial value."""
+    return mac(key, challenge.ljust(16, b"\x00"), message)[:CODE_SIZE]
+
+
+# ---------------------------------------------------------------------------------------------------------------------
 # What a card holds
 # ---------------------------------------------------------------------------------------------------------------------
 
@@ -117,9 +144,10 @@ RECORD_TYPES = (FIXED, VARIABLE, CYCLIC)
 LONGEST_RECORD = 178
 
 # Rights byte: bit 8 admin, bit 7 user, bit 1 device; 00 is free; 0F means never. Every set bit must be held; where bit 2 is
-# set too, any one of them is enough.
+# set too, any one of them is enough. Bit 3 asks for a code besides, in a file's right and not in a directory's.
 ADMIN_BIT, USER_BIT, DEVICE_BIT = 0x80, 0x40, 0x01
 ANY_BIT = 0x02
+CODE_BIT = 0x04
 NEVER = 0x0F
 
 NO_CHALLENGE = b""
@@ -136,7 +164,10 @@ NOTHING_WAITS = b""
 
 
 class Credential:
-    """The device key or a PIN, with its limit, its tries left and whether its right is held in this session."""
+    """The device key, a PIN or the transport key, with its limit, its tries left and whether its right is held in this session.
+
+    The transport key opens no right: it is never held.
+    """
 
     __slots__ = ("value", "limit", "tries", "held")
 
@@ -231,12 +262,13 @@ class Card:
     are, so the unused fields behind them do not exist here. `folder` is the current one.
     """
 
-    __slots__ = ("device", "admin", "user", "files", "folders", "current", "folder", "challenge", "mode", "waiting")
+    __slots__ = ("device", "admin", "user", "transport", "files", "folders", "current", "folder", "challenge", "mode", "waiting")
 
     def __init__(self):
         self.device = Credential()
         self.admin = Credential()
         self.user = Credential()
+        self.transport = Credential()
         self.files = []
         self.folders = []
         self.current = None
@@ -259,15 +291,27 @@ def is_limit(limit):
     return 1 <= limit <= 128
 
 
-def is_bad_rights_byte(byte):
-    """Any bit set other than the three and bit 2, or bit 2 alone, apart from 0F."""
+def is_bad_creation_right(byte):
+    """A directory's right: any bit set other than the three and bit 2, or bit 2 alone, apart from 0F."""
     if byte == NEVER:
         return False
     return byte & ~(ADMIN_BIT | USER_BIT | DEVICE_BIT | ANY_BIT) != 0 or byte == ANY_BIT
 
 
+def is_bad_rights_byte(byte):
+    """A file's right: as a directory's, but that bit 3 may be set too. It leaves bit 2 nothing to choose from."""
+    if byte == NEVER:
+        return False
+    return is_bad_creation_right(byte & ~CODE_BIT)
+
+
+def asks_code(byte):
+    """Whether a file's right asks for codes. 0F asks for nothing: it means never."""
+    return byte != NEVER and byte & CODE_BIT != 0
+
+
 def is_allowed(card, byte):
-    """Whether a rights byte lets the session pass."""
+    """Whether a rights byte lets the session pass, codes apart."""
     if byte == NEVER:
         return False
     asked = []
@@ -308,11 +352,15 @@ def is_sound(card, area):
     """
     if len(card.device.value) != 16 or not is_pin(card.admin.value) or not is_pin(card.user.value):
         return False
-    for credential in (card.device, card.admin, card.user):
+    if len(card.transport.value) != 16:
+        return False
+    for credential in (card.device, card.admin, card.user, card.transport):
         if not is_limit(credential.limit) or not 0 <= credential.tries <= credential.limit:
             return False
         if credential.held and credential.tries != credential.limit:
             return False
+    if card.transport.held:
+        return False
 
     if len(card.folders) > MOST_FOLDERS:
         return False
@@ -321,7 +369,7 @@ def is_sound(card, area):
         if not is_good_fid(folder.fid) or folder.fid in fids:
             return False
         fids.add(folder.fid)
-        if is_bad_rights_byte(folder.right):
+        if is_bad_creation_right(folder.right):
             return False
 
     if len(card.files) > MOST_FILES:
@@ -376,7 +424,7 @@ def is_sound(card, area):
 SMALLEST_REPLY = 258
 
 
-def issue(area, key, key_limit, admin_pin, admin_limit, user_pin, user_limit, mode):
+def issue(area, key, key_limit, admin_pin, admin_limit, user_pin, user_limit, mode, transport_key, transport_limit):
     """Outcome and card. A refused issue gives a blank state and leaves the area as it is."""
     if len(area) != AREA_SIZE:
         return 2, Card()
@@ -386,11 +434,14 @@ def issue(area, key, key_limit, admin_pin, admin_limit, user_pin, user_limit, mo
         return 5, Card()
     if mode not in MODES:
         return 5, Card()
+    if len(transport_key) != 16 or not is_limit(transport_limit):
+        return 5, Card()
     card = Card()
     card.device = Credential(key, key_limit)
     card.admin = Credential(admin_pin, admin_limit)
     card.user = Credential(user_pin, user_limit)
     card.mode = mode
+    card.transport = Credential(transport_key, transport_limit)
     area[:] = bytes(AREA_SIZE)
     return 0, card
 
@@ -432,16 +483,29 @@ def command(card, area, sent, random, reply):
 
 
 class Frame:
-    """A command cut into its parts. `le` is 256 where the byte sent is 00; `data` has the length Lc."""
+    """A command cut into its parts. `le` is 256 where the byte sent is 00; `data` has the length Lc.
 
-    __slots__ = ("case", "p1", "p2", "data", "le")
+    `is_coded` says that the class is 04, and `header` is CLA, INS, P1 and P2 as sent.
+    """
 
-    def __init__(self, case, p1, p2, data, le):
+    __slots__ = ("case", "header", "p1", "p2", "data", "le")
+
+    def __init__(self, case, header, data, le):
         self.case = case
-        self.p1 = p1
-        self.p2 = p2
+        self.header = header
+        self.p1 = header[2]
+        self.p2 = header[3]
         self.data = data
         self.le = le
+
+    @property
+    def is_coded(self):
+        return self.header[0] == CODED
+
+
+# Class 04 is that of commands with a code.
+CODED = 0x04
+CLASSES = (0x00, CODED, 0x80)
 
 
 def frame_of(sent):
@@ -449,16 +513,17 @@ def frame_of(sent):
     length = len(sent)
     if length < 4:
         return None
+    header = sent[:4]
     if length == 4:
-        return Frame(1, sent[2], sent[3], b"", None)
+        return Frame(1, header, b"", None)
     fifth = sent[4]
     if length == 5:
-        return Frame(2, sent[2], sent[3], b"", fifth or 256)
+        return Frame(2, header, b"", fifth or 256)
     if fifth != 0:
         if length == 5 + fifth:
-            return Frame(3, sent[2], sent[3], sent[5:], None)
+            return Frame(3, header, sent[5:], None)
         if length == 6 + fifth:
-            return Frame(4, sent[2], sent[3], sent[5:-1], sent[-1] or 256)
+            return Frame(4, header, sent[5:-1], sent[-1] or 256)
     return None
 
 
@@ -468,7 +533,7 @@ def serve(card, area, sent, random):
     row = None
     if frame is None:
         answer = refused(0x6700)
-    elif sent[0] not in (0x00, 0x80):
+    elif sent[0] not in CLASSES:
         answer = refused(0x6E00)
     else:
         row = ROWS.get((sent[0], sent[1]))
@@ -494,7 +559,7 @@ def serve(card, area, sent, random):
 
 
 # ---------------------------------------------------------------------------------------------------------------------
-# The twelve commands, and GET RESPONSE
+# The twelve commands, GET RESPONSE, and the five with a code
 #
 # Each takes the card, the area, the frame and the random input, runs its checks in the order written and gives data
 # and SW. The first check that fails gives the SW, no data, and a change only where said.
@@ -558,33 +623,80 @@ def select(card, area, frame, random):
     return refused(0x6A82)
 
 
-def find_bytes(card, frame, case, right_of, wanted_of):
+# ---------------------------------------------------------------------------------------------------------------------
+# The five commands that may have a code
+#
+# They read, or they write. After P each asks `form_and_code`, which looks at the case and at a code, and gives the data that
+# the file's checks go by.
+# ---------------------------------------------------------------------------------------------------------------------
+
+READS, WRITES = "reads", "writes"
+
+
+def form_and_code(card, frame, what):
+    """The SW of the checks of case and Lc and then of the code, where there is one; and the data without it."""
+    if not frame.is_coded:
+        return 0x9000 if frame.case == (2 if what == READS else 3) else 0x6700, frame.data
+    # A read becomes case 4 with the code alone for data; the others have at least one byte before it.
+    if what == READS and (frame.case != 4 or len(frame.data) != CODE_SIZE):
+        return 0x6700, b""
+    if what == WRITES and (frame.case != 3 or len(frame.data) <= CODE_SIZE):
+        return 0x6700, b""
+    if card.transport.tries == 0:
+        return 0x6983, b""
+    if card.challenge == NO_CHALLENGE:
+        return 0x6984, b""
+    data, code = frame.data[:-CODE_SIZE], frame.data[-CODE_SIZE:]
+    # Header and Lc as sent: the code's own bytes are counted in Lc. Le is not covered.
+    message = frame.header + bytes((len(frame.data),)) + data
+    if code != code_of(card.transport.value, card.challenge, message):
+        card.transport.tries -= 1
+        return 0x6988, b""
+    # A presentation of the transport key, and a right one, whatever the file's checks say.
+    card.transport.tries = card.transport.limit
+    return 0x9000, data
+
+
+def may_use(card, frame, byte):
+    """The check of a file's right. Where it asks for a code, a command without one does not pass, whatever is held."""
+    if asks_code(byte) and not frame.is_coded:
+        return False
+    return is_allowed(card, byte)
+
+
+# What is found beside a SW that refuses.
+NOWHERE = (None, 0, 0, b"")
+
+
+def find_bytes(card, frame, what, right_of, wanted_of):
     """The checks that READ BINARY and UPDATE BINARY share.
 
     `right_of` gives the rights byte that counts, and `wanted_of` how many bytes are read or written where so many stand
-    from the offset to the end. Gives the SW, the file, the offset and that number.
+    from the offset to the end and such are the data. Gives the SW, and with it the file, where in the area these bytes begin,
+    that number and the data.
     """
     if frame.p1 & 0x80 == 0:
         sfi, offset = 0, frame.p1 << 8 | frame.p2
     elif 0x81 <= frame.p1 <= 0x9E:
         sfi, offset = frame.p1 & 0x1F, frame.p2
     else:
-        return 0x6A86, None, 0, 0
-    if frame.case != case:
-        return 0x6700, None, 0, 0
+        return 0x6A86, NOWHERE
+    sw, data = form_and_code(card, frame, what)
+    if sw != 0x9000:
+        return sw, NOWHERE
     file = named_file(card, sfi)
     if file is None:
-        return 0x6A82, None, 0, 0
+        return 0x6A82, NOWHERE
     if file.kind != BINARY:
-        return 0x6981, None, 0, 0
-    if not is_allowed(card, right_of(file)):
-        return 0x6982, None, 0, 0
+        return 0x6981, NOWHERE
+    if not may_use(card, frame, right_of(file)):
+        return 0x6982, NOWHERE
     if offset >= file.size:
-        return 0x6A84, None, 0, 0
-    wanted = wanted_of(file.size - offset)
+        return 0x6A84, NOWHERE
+    wanted = wanted_of(file.size - offset, data)
     if offset + wanted > file.size:
-        return 0x6700, None, 0, 0
-    return 0x9000, file, offset, wanted
+        return 0x6700, NOWHERE
+    return 0x9000, (file, file.start + offset, wanted, data)
 
 
 def read_right(file):
@@ -596,52 +708,51 @@ def write_right(file):
 
 
 def read_binary(card, area, frame, random):
-    def wanted(left):
+    def wanted(left, data):
         # Here Le 00 is the smaller of 256 and what is left.
         return min(256, left) if frame.le == 256 else frame.le
 
-    sw, file, offset, length = find_bytes(card, frame, 2, read_right, wanted)
+    sw, (file, begin, length, _) = find_bytes(card, frame, READS, read_right, wanted)
     if sw != 0x9000:
         return refused(sw)
     card.current = file
-    begin = file.start + offset
     return bytes(area[begin:begin + length]), 0x9000
 
 
 def update_binary(card, area, frame, random):
-    def wanted(left):
-        return len(frame.data)
+    def wanted(left, data):
+        return len(data)
 
-    sw, file, offset, length = find_bytes(card, frame, 3, write_right, wanted)
+    sw, (file, begin, length, data) = find_bytes(card, frame, WRITES, write_right, wanted)
     if sw != 0x9000:
         return refused(sw)
     card.current = file
-    begin = file.start + offset
-    area[begin:begin + length] = frame.data
+    area[begin:begin + length] = data
     return DONE
 
 
-def find_record(card, area, frame, case, right_of):
-    """The checks that READ RECORD and UPDATE RECORD share, up to the number. Gives the SW and the file."""
+def find_record(card, area, frame, what, right_of):
+    """The checks that READ RECORD and UPDATE RECORD share, up to the number. Gives the SW, the file and the data."""
     sfi = frame.p2 >> 3
     if frame.p1 == 0 or frame.p2 & 0b111 != 0b100 or sfi == 31:
-        return 0x6A86, None
-    if frame.case != case:
-        return 0x6700, None
+        return 0x6A86, None, b""
+    sw, data = form_and_code(card, frame, what)
+    if sw != 0x9000:
+        return sw, None, b""
     file = named_file(card, sfi)
     if file is None:
-        return 0x6A82, None
+        return 0x6A82, None, b""
     if file.kind not in RECORD_TYPES:
-        return 0x6981, None
-    if not is_allowed(card, right_of(file)):
-        return 0x6982, None
+        return 0x6981, None, b""
+    if not may_use(card, frame, right_of(file)):
+        return 0x6982, None, b""
     if frame.p1 > file.records_held(area):
-        return 0x6A83, None
-    return 0x9000, file
+        return 0x6A83, None, b""
+    return 0x9000, file, data
 
 
 def read_record(card, area, frame, random):
-    sw, file = find_record(card, area, frame, 2, read_right)
+    sw, file, _ = find_record(card, area, frame, READS, read_right)
     if sw != 0x9000:
         return refused(sw)
     begin, length = file.record(area, frame.p1)
@@ -653,14 +764,14 @@ def read_record(card, area, frame, random):
 
 
 def update_record(card, area, frame, random):
-    sw, file = find_record(card, area, frame, 3, write_right)
+    sw, file, data = find_record(card, area, frame, WRITES, write_right)
     if sw != 0x9000:
         return refused(sw)
     begin, length = file.record(area, frame.p1)
-    if len(frame.data) != length:
+    if len(data) != length:
         return refused(0x6700)
     card.current = file
-    area[begin:begin + length] = frame.data
+    area[begin:begin + length] = data
     return DONE
 
 
@@ -668,16 +779,17 @@ def append_record(card, area, frame, random):
     sfi = frame.p2 >> 3
     if frame.p1 != 0 or frame.p2 & 0b111 != 0 or sfi == 31:
         return refused(0x6A86)
-    if frame.case != 3:
-        return refused(0x6700)
+    sw, data = form_and_code(card, frame, WRITES)
+    if sw != 0x9000:
+        return refused(sw)
     file = named_file(card, sfi)
     if file is None:
         return refused(0x6A82)
     if file.kind not in (VARIABLE, CYCLIC):
         return refused(0x6981)
-    if not is_allowed(card, file.write):
+    if not may_use(card, frame, file.write):
         return refused(0x6982)
-    sw = append_variable(file, area, frame.data) if file.kind == VARIABLE else append_cyclic(file, area, frame.data)
+    sw = append_variable(file, area, data) if file.kind == VARIABLE else append_cyclic(file, area, data)
     if sw != 0x9000:
         return refused(sw)
     card.current = file
@@ -832,7 +944,7 @@ def create_folder(card, fid, data):
     if card.folder is not ROOT:
         return refused(0x6A81)
     _, first, second, right, last = data
-    if first != 0 or second != 0 or last != 0 or is_bad_rights_byte(right):
+    if first != 0 or second != 0 or last != 0 or is_bad_creation_right(right):
         return refused(0x6A80)
     if with_fid(card.folders, fid) is not None or with_fid(files_here(card), fid) is not None:
         return refused(0x6986)
@@ -872,7 +984,7 @@ def get_response(card, area, frame, random):
     return part, still_waiting(card)[1] if card.waiting else 0x9000
 
 
-# The list: thirteen rows of CLA, INS, name and rule.
+# The list: eighteen rows of CLA, INS, name and rule.
 LIST = (
     (0x00, 0xA4, "SELECT", select),
     (0x00, 0xB0, "READ BINARY", read_binary),
@@ -887,5 +999,10 @@ LIST = (
     (0x80, 0xE0, "CREATE FILE", create_file),
     (0x00, 0x84, "GET CHALLENGE", get_challenge),
     (0x00, 0xC0, "GET RESPONSE", get_response),
+    (CODED, 0xB0, "READ BINARY with a code", read_binary),
+    (CODED, 0xD6, "UPDATE BINARY with a code", update_binary),
+    (CODED, 0xB2, "READ RECORD with a code", read_record),
+    (CODED, 0xDC, "UPDATE RECORD with a code", update_record),
+    (CODED, 0xE2, "APPEND RECORD with a code", append_record),
 )
 ROWS = {(cla, ins): rule for cla, ins, _, rule in LIST}

@@ -1,8 +1,8 @@
 """Long random scripts that reach deep into the card.
 
 The generator runs every line that it writes on its own copy of the model. So it knows the right PINs, the challenge
-that stands, the files, their lengths and what they hold, and can aim at both sides of an edge. The script depends on
-the seed and the number of lines only.
+that stands, the files, their lengths and what they hold, and can aim at both sides of an edge. It plays the main board's
+side too: it knows the transport key and works out the codes. The script depends on the seed and the number of lines only.
 """
 
 import argparse
@@ -14,12 +14,21 @@ import card as cards
 import script
 
 INS = {name: (cla, ins) for cla, ins, name, _ in cards.LIST}
+NAMES = {(cla, ins): name for cla, ins, name, _ in cards.LIST}
+# The five commands that may have a code.
+FILE_COMMANDS = ("READ BINARY", "UPDATE BINARY", "READ RECORD", "UPDATE RECORD", "APPEND RECORD")
+WITH_A_CODE = " with a code"
 DIGITS = b"0123456789"
 ROOT = cards.ROOT
 
-GOOD_RIGHTS = ((0x00, 44), (0x01, 9), (0x40, 9), (0x80, 9), (0x41, 4), (0x81, 4), (0xC0, 4), (0xC1, 4), (0x0F, 7),
-               (0xC2, 8), (0x43, 5), (0x83, 5), (0xC3, 5), (0x03, 3), (0x42, 3), (0x82, 3))
-BAD_RIGHTS = (0x02, 0x02, 0x04, 0x08, 0x10, 0x20, 0x06, 0x0A, 0x0E, 0x0D, 0x12, 0x1F, 0x4F, 0x8F, 0xC6, 0xCF, 0xFE, 0xFF)
+# A directory's creation rights, and the rights of files: those, and with bit 3.
+GOOD_CREATION = ((0x00, 44), (0x01, 9), (0x40, 9), (0x80, 9), (0x41, 4), (0x81, 4), (0xC0, 4), (0xC1, 4), (0x0F, 7),
+                 (0xC2, 8), (0x43, 5), (0x83, 5), (0xC3, 5), (0x03, 3), (0x42, 3), (0x82, 3))
+GOOD_RIGHTS = GOOD_CREATION + (
+    (0x04, 14), (0x05, 3), (0x44, 4), (0x84, 3), (0x45, 2), (0x85, 2), (0xC4, 3), (0xC5, 2),
+    (0xC6, 3), (0x47, 2), (0x87, 2), (0xC7, 2), (0x07, 2), (0x46, 2), (0x86, 2))
+BAD_RIGHTS = (0x02, 0x02, 0x06, 0x06, 0x08, 0x10, 0x20, 0x0A, 0x0C, 0x0E, 0x0D, 0x12, 0x14, 0x1F, 0x4F, 0x8F, 0xCF, 0xFE, 0xFF)
+BAD_CREATION = BAD_RIGHTS + (0x04, 0x04, 0x05, 0x07, 0x44, 0x84, 0xC4, 0xC6, 0xC7)
 BAD_TYPES = (0x00, 0x08, 0x18, 0x27, 0x29, 0x2B, 0x2D, 0x2F, 0x30, 0x38, 0x39, 0x3A, 0x6A, 0x78, 0xAC, 0xAE, 0xFF)
 NOT_DIGITS = (0x00, 0x2F, 0x3A, 0x20, 0x41, 0xB0, 0xB9, 0xFF, 0x0D)
 
@@ -73,6 +82,10 @@ def case_3(name, p1, p2, data):
     return bytes((*INS[name], p1, p2, len(data) & 0xFF)) + data
 
 
+def case_4(name, p1, p2, data, le):
+    return case_3(name, p1, p2, data) + bytes((le & 0xFF,))
+
+
 def select_fid(fid):
     return case_3("SELECT", 0, 0, bytes((fid >> 8, fid & 0xFF)))
 
@@ -86,6 +99,29 @@ def as_in_mode_0(card, sent, data, sw):
     if sw >> 8 == 0x61 and tuple(sent[:2]) != INS["GET RESPONSE"]:
         return card.waiting, 0x9000
     return data, sw
+
+
+def right_asked(card, sent):
+    """The rights byte that one of the five commands meets, coded or not; None where it names no file."""
+    name = NAMES.get(tuple(sent[:2]), "").removesuffix(WITH_A_CODE)
+    if name not in FILE_COMMANDS or card is None or len(sent) < 4:
+        return None
+    file = cards.named_file(card, named_sfi(name, sent[2], sent[3]))
+    if file is None:
+        return None
+    return file.read if name.startswith("READ") else file.write
+
+
+def named_sfi(name, p1, p2):
+    """The SFI in P, 0 where the current file is meant."""
+    return (p1 & 0x1F if p1 & 0x80 else 0) if "BINARY" in name else p2 >> 3
+
+
+def has_code_form(name, frame):
+    """Whether a frame of class 04 has the case and Lc that its command asks for."""
+    if name.startswith("READ"):
+        return frame.case == 4 and len(frame.data) == cards.CODE_SIZE
+    return frame.case == 3 and len(frame.data) > cards.CODE_SIZE
 
 
 class Full(Exception):
@@ -103,6 +139,10 @@ class Generator:
         self.care = 0.9
         # How often what waits is fetched at once; each card has its own.
         self.patience = 0.8
+        # How often a code is sent where none is asked; each card has its own.
+        self.coding = 0.1
+        # Commands with codes that were right once.
+        self.old_coded = []
         # PINs and cryptograms that were right once: presenting them again must fail.
         self.old_pins = []
         self.old_cryptograms = []
@@ -125,7 +165,11 @@ class Generator:
         return answer
 
     def send(self, sent, spoil=0.05):
-        """Writes a command, sometimes spoiled, mostly with a good random input."""
+        """Writes a command; one of the five at times with a code."""
+        return self.send_coded(sent, spoil) if self.is_to_be_coded(sent) else self.send_plain(sent, spoil)
+
+    def send_plain(self, sent, spoil):
+        """As it is, sometimes spoiled, mostly with a good random input."""
         dice = self.dice
         if dice.chance(spoil):
             sent = self.spoiled(sent)
@@ -143,6 +187,9 @@ class Generator:
 
     def surely(self, sent):
         """A command that serves a plan and is not spoiled. What waits is fetched without a mistake that would drop a challenge."""
+        if sent[0] == 0x00 and cards.asks_code(right_asked(self.card, sent) or 0) and self.card.transport.tries and len(sent) <= 256:
+            self.surely(case_2("GET CHALLENGE", 0, 0, self.dice.pick((4, 8, 16))))
+            sent = self.coded(sent)
         answer = self.put(b"CMD\t" + hex_of(sent) + b"\t" + hex_of(self.dice.bytes(16)))
         if self.waits() and self.dice.chance(self.patience):
             self.fetch(mistakes=False)
@@ -186,6 +233,139 @@ class Generator:
             if dice.chance(0.5):
                 changed.append(dice.below(256))
         return bytes(changed)
+
+    # -------------------------------------------------------------------------------------------------------- codes
+
+    def is_to_be_coded(self, sent):
+        """Whether one of the five commands is to be sent with a code: mostly where its file asks for one."""
+        frame = cards.frame_of(sent)
+        if self.card is None or frame is None or NAMES.get(tuple(sent[:2])) not in FILE_COMMANDS:
+            return False
+        if frame.case not in (2, 3) or len(frame.data) > 255 - cards.CODE_SIZE:
+            return False
+        if cards.asks_code(right_asked(self.card, sent) or 0):
+            return self.dice.chance(0.85)
+        return self.dice.chance(self.coding)
+
+    @staticmethod
+    def message_of(sent):
+        """What the code of a plain command covers: its header in class 04, Lc with the code's bytes counted, its data."""
+        data = cards.frame_of(sent).data
+        return bytes((cards.CODED,)) + sent[1:4] + bytes((len(data) + cards.CODE_SIZE,)) + data
+
+    def with_code(self, sent, code):
+        """A plain command of case 2 or 3 with a code."""
+        end = sent[4:] if cards.frame_of(sent).case == 2 else b""
+        return self.message_of(sent) + code + end
+
+    def right_code(self, sent, challenge=None):
+        challenge = self.card.challenge if challenge is None else challenge
+        return cards.code_of(self.card.transport.value, challenge, self.message_of(sent))
+
+    def coded(self, sent):
+        """A plain command with the right code for the challenge that stands."""
+        return self.with_code(sent, self.right_code(sent))
+
+    def wrong_code(self, sent, challenge):
+        """A code that a board with one thing wrong would send; now and then it is right all the same."""
+        dice, key, message = self.dice, self.card.transport.value, self.message_of(sent)
+        filled = challenge.ljust(16, b"\x00")
+        whole = cards.padded(message)
+        kind = dice.below(19)
+        if kind < 5:
+            changed = bytearray(self.right_code(sent, challenge))
+            changed[kind if kind < 4 else 3] ^= 1 << dice.below(8)
+            return bytes(changed)
+        if kind == 5:
+            return cards.code_of(key, b"", message)
+        if kind == 6:
+            return cards.code_of(key, challenge, message[:4] + bytes((message[4] - cards.CODE_SIZE,)) + message[5:])
+        if kind == 7:
+            return cards.code_of(key, challenge, dice.pick((b"\x00" + message[1:], message[1:])))
+        if kind == 8:
+            # Left as it is where it fills its blocks, and filled with 00 else.
+            return self.chained(key, filled, message + bytes(-len(message) % 16))
+        if kind == 9:
+            return self.chained(key, challenge.rjust(16, b"\x00"), whole)
+        if kind == 10:
+            return cards.code_of(key, challenge, message + (sent[4:] if cards.frame_of(sent).case == 2 else b"\x00"))
+        if kind == 11:
+            return cards.code_of(dice.pick((self.card.device.value, bytes(16), dice.bytes(16))), challenge, message)
+        if kind == 12:
+            return cards.mac(key, filled, message)[dice.pick((4, 8, 12)):][:4]
+        if kind == 13:
+            return self.chained(key, challenge.ljust(16, b"\x80"), whole)
+        if kind == 14:
+            return cards.code_of(key, challenge, message[:4] + message[5:])
+        if kind == 15:
+            # The data left out, or the first block only, or the last.
+            return dice.pick((cards.code_of(key, challenge, message[:5]), self.chained(key, filled, whole[:16]),
+                              self.chained(key, filled, whole[-16:])))
+        if kind == 16:
+            return cards.code_of(key, dice.bytes(len(challenge)), message)
+        if kind == 17:
+            return bytes(4)
+        return dice.bytes(4)
+
+    @staticmethod
+    def chained(key, start, blocks):
+        for place in range(0, len(blocks), 16):
+            start = cards.encrypt(key, bytes(left ^ right for left, right in zip(start, blocks[place:place + 16])))
+        return start[:cards.CODE_SIZE]
+
+    def in_another_form(self, sent):
+        """A coded command with another case or Lc than it is to have, its code right for what it then says."""
+        dice, challenge, key = self.dice, self.card.challenge, self.card.transport.value
+        header = bytes((cards.CODED,)) + sent[1:4]
+        is_read = cards.frame_of(sent).case == 2
+        kind = dice.below(5)
+        if kind == 0:
+            return header
+        if kind == 1:
+            return header + bytes((dice.pick((0, 1, 4, 5, 255)),))
+        if kind == 2:
+            # A read of case 3, a write of case 4.
+            made = self.coded(sent)
+            return made[:-1] if is_read else made + bytes((dice.pick((0, 1, 4, 255)),))
+        if kind == 3:
+            # No byte before the code, or three bytes in all; of a read that is a byte too few.
+            length = dice.pick((3, 3, 4)) if not is_read else 3
+            message = header + bytes((length,))
+            return message + cards.code_of(key, challenge, message)[:length] + (sent[4:] if is_read else b"")
+        message = header + b"\x05" + dice.bytes(1)
+        return message + cards.code_of(key, challenge, message) + (sent[4:] if is_read else b"\x00")
+
+    def ask_for_code(self):
+        self.surely(case_2("GET CHALLENGE", 0, 0, self.dice.pick((4, 8, 16))))
+
+    def send_coded(self, sent, spoil):
+        """A plain command sent with a code: its own challenge before, mostly a right code, and now and then the same once more."""
+        dice, card = self.dice, self.card
+        kind = dice.weighted((("right", 68), ("wrong", 16), ("none", 3), ("late", 5), ("form", 5), ("unserved", 2), ("old", 2)))
+        if kind in ("wrong", "old", "late") and self.is_careful(card.transport):
+            kind = "right"
+        if kind != "none":
+            self.ask_for_code()
+        challenge = card.challenge or dice.bytes(dice.pick((4, 8, 16)))
+        if kind == "late":
+            self.interrupt()
+            if self.card is not card:
+                return self.put(b"RESET")  # a line put in between issued another card
+        if kind == "form" and card.challenge:
+            return self.send_plain(self.in_another_form(sent), 0)
+        if kind == "old" and self.old_coded:
+            return self.send_plain(dice.pick(self.old_coded), 0)
+        if kind == "wrong":
+            return self.send_plain(self.with_code(sent, self.wrong_code(sent, challenge)), 0.02)
+        made = self.with_code(sent, self.right_code(sent, challenge))
+        if kind == "unserved":
+            self.put(b"CMD\t%s\t%s" % (hex_of(made), hex_of(dice.bytes(dice.pick((0, 15, 17))))))
+        answer = self.send_plain(made, spoil)
+        self.old_coded = self.old_coded[-3:] + [made]
+        if dice.chance(0.06):
+            # The challenge is used up.
+            self.send_plain(made, 0)
+        return answer
 
     # ------------------------------------------------------------------------------------------------- what waits
 
@@ -244,6 +424,7 @@ class Generator:
         else:
             sent = dice.pick((
                 b"\x00\xC0\x00", b"\x00\xC0\x00\x00\x00\x01", b"\x80\xC0\x00\x00\x00", b"\x01\xC0\x00\x00\x00",
+                b"\x04\xC0\x00\x00\x00", b"\x04\xC0\x00\x00\x04\x00\x00\x00\x00\x00", b"\x04\xB0\x00\x00",
                 b"\x00\xC1\x00\x00\x00", b"\x00\xC4\x00\x00", case_1("VERIFY", 0, dice.below(2)), dice.bytes(dice.below(4)),
                 select_fid(0x3F00), select_fid(0x3F01), case_2("GET CHALLENGE", 0, 0, 5)))
             self.put(b"CMD\t" + hex_of(sent) + b"\t" + hex_of(dice.bytes(16)))
@@ -383,9 +564,12 @@ class Generator:
     def interrupt(self):
         """Something between a challenge and its use: some of these keep the challenge, most drop it."""
         dice = self.dice
-        kind = dice.below(14)
+        kind = dice.below(15)
         if kind < 3:
             self.put(self.line_between(kind))
+        elif kind == 14:
+            # Not in the list with class 04.
+            self.send(bytes((cards.CODED,)) + dice.pick((case_2("GET RESPONSE", 0, 0, 0), case_1("VERIFY", 0, 1)))[1:], spoil=0)
         elif kind == 3:
             # Outcome 3 leaves the challenge as it is.
             self.put(b"CMD\t0084000008\t" + hex_of(dice.bytes(dice.pick((0, 15, 17)))))
@@ -409,6 +593,10 @@ class Generator:
         dice = self.dice
         p2 = 0 if dice.chance(0.9) else dice.pick((1, 0x80))
         self.send(case_2("GET CHALLENGE", 0, p2, dice.pick((4, 8, 16, 4, 8, 16, 0, 1, 3, 5, 7, 9, 15, 17, 255))))
+
+    def may_use(self, byte):
+        """Whether a file's right lets a command pass, with a code where it asks for one."""
+        return cards.is_allowed(self.card, byte) and not (cards.asks_code(byte) and self.card.transport.tries == 0)
 
     def obtain(self, byte):
         """Presents what a rights byte asks for, as far as tries are left. Where one of several is enough, mostly one."""
@@ -469,13 +657,16 @@ class Generator:
     def use_up_tries(self):
         """Wrong presentations in a row, at times to the last try and past it, and then the right one."""
         dice = self.dice
-        target = dice.weighted(((self.card.user, 5), (self.card.admin, 2), (self.card.device, 3)))
+        target = dice.weighted(((self.card.user, 5), (self.card.admin, 2), (self.card.device, 3), (self.card.transport, 4)))
         if target.tries > 20 and dice.chance(0.75):
             # Worth its many lines only now and then.
             return
         # The user PIN can be reloaded, so it may well be used up; the others end what a card can show.
         to_the_end = 0.6 if target is self.card.user else 1.2 - self.care
         left = 0 if dice.chance(to_the_end) else dice.pick((1, 1, 2, 14, 15))
+        if target is self.card.transport:
+            self.use_up_codes(left)
+            return
         while target.tries > left:
             if target is self.card.device:
                 self.surely(case_2("GET CHALLENGE", 0, 0, dice.pick((4, 8, 16))))
@@ -503,6 +694,102 @@ class Generator:
             self.surely(case_3("RELOAD PIN", 2, 1, self.new_pin()))
             self.surely(case_3("VERIFY", 0, 1, target.value))
 
+    def use_up_codes(self, left):
+        """Wrong codes in a row, one of which may be for no file at all, and then the right one, with a challenge or without."""
+        dice, card = self.dice, self.card
+        sent = self.any_of_the_five()
+        while card.transport.tries > left:
+            self.ask_for_code()
+            code = bytearray(self.right_code(sent))
+            code[dice.below(4)] ^= 1 << dice.below(8)
+            self.put(b"CMD\t%s\t%s" % (hex_of(self.with_code(sent, bytes(code))), hex_of(dice.bytes(16))))
+        if dice.chance(0.8):
+            self.ask_for_code()
+        sent = self.any_of_the_five()
+        challenge = card.challenge or bytes(4)
+        self.surely(self.with_code(sent, self.right_code(sent, challenge)))
+        if dice.chance(0.5):
+            self.surely(bytes((cards.CODED,)) + sent[1:4])
+
+    def restore_codes(self):
+        """Wrong codes to the last try, a right one that the file refuses, and once more: it shows whether all tries came back."""
+        card = self.card
+        if not 2 <= card.transport.limit <= 5 or card.transport.tries == 0:
+            return
+        for _ in range(2):
+            sent = self.any_of_the_five()
+            while card.transport.tries > 1:
+                self.ask_for_code()
+                self.surely(self.with_code(sent, bytes(byte ^ 0xFF for byte in self.right_code(sent))))
+            self.ask_for_code()
+            self.surely(self.coded(self.refused_later()))
+
+    def refused_later(self):
+        """A plain command of case 2 or 3 that a file refuses: by its length, number, offset or type, or since it is not there."""
+        dice = self.dice
+        files = cards.files_here(self.card)
+        if not files or dice.chance(0.15):
+            return dice.pick((case_2("READ BINARY", 0x80 | dice.between(1, 30), 0, 1), case_3("APPEND RECORD", 0, 0, b"\x01"),
+                              case_2("READ RECORD", 1, dice.between(1, 30) << 3 | 4, 0)))
+        file = dice.pick(files)
+        if file.kind == cards.BINARY:
+            return dice.pick((case_2("READ BINARY", 0x80 | file.sfi, 255, 255), case_3("UPDATE BINARY", 0x80 | file.sfi, 255, bytes(251)),
+                              case_2("READ RECORD", 1, file.sfi << 3 | 4, 0)))
+        length, number = self.record_length(file, 1), dice.pick((1, 1, 1, 255))
+        return dice.pick((
+            case_2("READ RECORD", number, file.sfi << 3 | 4, length + 1), case_2("READ RECORD", number, file.sfi << 3 | 4, length + 1),
+            case_3("UPDATE RECORD", number, file.sfi << 3 | 4, bytes(length + 1)), case_3("APPEND RECORD", 0, file.sfi << 3, bytes(179)),
+            case_2("READ BINARY", 0x80 | file.sfi, 0, 1)))
+
+    def any_of_the_five(self):
+        """A plain command of case 2 or 3, mostly to a file that is there."""
+        dice = self.dice
+        files = cards.files_here(self.card)
+        file = dice.pick(files) if files and dice.chance(0.9) else None
+        sfi = file.sfi if file else dice.between(0, 30)
+        if file is not None and file.kind == cards.BINARY:
+            return dice.pick((case_2("READ BINARY", 0x80 | sfi, 0, dice.pick((0, 1))), case_3("UPDATE BINARY", 0x80 | sfi, 0, dice.bytes(1))))
+        length = self.record_length(file, 1) if file else 1
+        return dice.pick((
+            case_2("READ RECORD", 1, sfi << 3 | 4, 0), case_3("UPDATE RECORD", 1, sfi << 3 | 4, dice.bytes(length)),
+            case_3("APPEND RECORD", 0, sfi << 3, dice.bytes(length))))
+
+    def use_codes(self):
+        """A file that asks for a code, made where there is none; then it is used with codes and without."""
+        dice, card = self.dice, self.card
+        files = [file for file in card.files if cards.asks_code(file.read) or cards.asks_code(file.write)]
+        if not files or dice.chance(0.1):
+            if len(card.files) == cards.MOST_FILES:
+                return
+            self.obtain_creation()
+            byte = dice.pick([byte for byte, _ in GOOD_RIGHTS if cards.asks_code(byte)])
+            kind = dice.pick((cards.BINARY, cards.FIXED, cards.VARIABLE, cards.CYCLIC))
+            fid = self.new_fid()
+            contents = bytes((kind,)) + self.size_bytes(kind) + bytes((dice.pick((byte, self.rights_byte())), byte))
+            self.send(case_3("CREATE FILE", fid >> 8, fid & 0xFF, contents), spoil=0.01)
+            return
+        file = dice.pick(files)
+        self.go_to(file.folder)
+        if dice.chance(0.7):
+            self.obtain(file.read)
+            self.obtain(file.write)
+        for _ in range(dice.between(1, 4)):
+            if self.card is not card or file.folder is not card.folder:
+                return
+            self.code_lengths(file) if dice.chance(0.4) else self.by_sfi(file)
+
+    def code_lengths(self, file):
+        """Data whose message ends a byte before a block's end, at it, and behind it; or the longest that a code leaves room for."""
+        dice = self.dice
+        length = dice.pick((1, 10, 11, 12, 26, 27, 28, 43, 59, 171, 178, 187, 247, 250, 251))
+        if file.kind == cards.BINARY:
+            length = max(1, min(length, file.size))
+            self.send(case_3("UPDATE BINARY", 0x80 | file.sfi, 0, dice.bytes(length)), spoil=0.01)
+        elif file.kind == cards.VARIABLE:
+            self.send(case_3("APPEND RECORD", 0, file.sfi << 3, dice.bytes(length)), spoil=0.01)
+        else:
+            self.send(case_3("UPDATE RECORD", 1, file.sfi << 3 | 4, dice.bytes(dice.pick((file.length, file.length, length)))), spoil=0.01)
+
     # ---------------------------------------------------------------------------------------------------------- files
 
     def room(self):
@@ -510,6 +797,9 @@ class Generator:
 
     def rights_byte(self):
         return self.dice.weighted(GOOD_RIGHTS)
+
+    def creation_right(self):
+        return self.dice.weighted(GOOD_CREATION)
 
     def files_in(self, folder):
         return [file for file in self.card.files if file.folder is folder]
@@ -562,23 +852,26 @@ class Generator:
         self.surely(select_fid(folder.fid))
 
     def obtain_creation(self):
-        """Presents what CREATE FILE asks for in the current folder."""
+        """Presents what CREATE FILE asks for in the current folder; inside one at times only a part of it."""
         folder = self.card.folder
-        self.obtain(cards.DEVICE_BIT if folder is ROOT else folder.right)
+        right = cards.DEVICE_BIT if folder is ROOT else folder.right
+        if folder is not ROOT and right != cards.NEVER and self.dice.chance(0.2):
+            right &= self.dice.pick((cards.ADMIN_BIT, cards.USER_BIT, cards.DEVICE_BIT))
+        self.obtain(right)
 
     def create_folder(self):
         """A directory, mostly from the root; now and then where it cannot be, or with bytes that cannot be."""
         dice = self.dice
-        if self.card.folder is not ROOT and dice.chance(0.6):
+        if self.card.folder is not ROOT and dice.chance(0.5):
             self.go_to(ROOT)
-        if dice.chance(0.9):
+        if dice.chance(0.9 if self.card.folder is ROOT else 0.5):
             self.obtain_creation()
-        contents = bytearray((cards.FOLDER, 0, 0, self.rights_byte(), 0))
+        contents = bytearray((cards.FOLDER, 0, 0, self.creation_right(), 0))
         wrong = dice.weighted((("nothing", 80), ("byte", 8), ("right", 6), ("length", 2), ("type", 2)))
         if wrong == "byte":
             contents[dice.pick((1, 2, 4, 4))] = dice.pick((0x01, 0x0F, 0x10, 0x80, 0xC1))
         elif wrong == "right":
-            contents[3] = dice.pick(BAD_RIGHTS)
+            contents[3] = dice.pick(BAD_CREATION)
         elif wrong == "length":
             contents = (contents + dice.bytes(4))[:dice.pick((1, 4, 6))]
         elif wrong == "type":
@@ -953,7 +1246,7 @@ class Generator:
             return
         file = dice.pick(small)
         self.obtain(file.write)
-        if not cards.is_allowed(self.card, file.write):
+        if not self.may_use(file.write):
             return
         self.go_to(file.folder)
         for _ in range(file.count - file.records + dice.between(0, 3)):
@@ -969,11 +1262,13 @@ class Generator:
             return
         file = dice.pick(files)
         self.obtain(file.write)
-        if not cards.is_allowed(self.card, file.write):
+        if not self.may_use(file.write):
             return
         # Not so short that it takes too many lines.
         longest = min(178, max(dice.pick((1, 4, 20, 60, 178)), file.size // 20))
         while file.size - file.used > longest + 2:
+            if not self.may_use(file.write):
+                break  # a wrong code was the last
             self.append_to(file, dice.pick((longest, dice.between(1, longest), dice.between(1, longest))))
         self.use_full(file)
 
@@ -1056,10 +1351,10 @@ class Generator:
         else:
             return
         self.obtain(file.write)
-        if not cards.is_allowed(self.card, file.write):
+        if not self.may_use(file.write):
             return
         self.go_to(file.folder)
-        while self.held(file) <= 256:
+        while self.held(file) <= 256 and self.may_use(file.write):
             self.surely(case_3("APPEND RECORD", 0, file.sfi << 3, dice.bytes(1)))
         for number in (1, 254, 255):
             p2 = file.sfi << 3 | 4
@@ -1068,7 +1363,7 @@ class Generator:
 
     def read_records(self, file):
         self.obtain(file.read)
-        if cards.is_allowed(self.card, file.read):
+        if self.may_use(file.read):
             for number in range(1, min(self.held(file) + 1, 255) + 1):
                 self.go_to(file.folder)
                 self.send(case_2("READ RECORD", number, file.sfi << 3 | 4, 0), spoil=0.005)
@@ -1080,7 +1375,7 @@ class Generator:
                 return  # a line put in between issued another card
             if file.kind == cards.BINARY:
                 self.obtain(file.read)
-                if cards.is_allowed(self.card, file.read):
+                if self.may_use(file.read):
                     self.go_to(file.folder)
                     self.surely(select_fid(file.fid))
                     for offset in range(0, file.size, 256):
@@ -1110,7 +1405,9 @@ class Generator:
         elif kind == 4:
             # The right instruction in the wrong one of the two classes, or in another.
             cla, ins = dice.pick(tuple(INS.values()))
-            sent = bytes((dice.pick((cla ^ 0x80, cla ^ 0x80, 0x01, 0x04, 0x90, 0xFF)), ins, 0, 0, 4))
+            sent = bytes((dice.pick((cla ^ 0x80, cla ^ 0x80, 0x01, 0x04, 0x04, 0x84, 0x90, 0xFF)), ins, 0, 0, 4))
+            if dice.chance(0.3):
+                sent += dice.bytes(4) + bytes(dice.below(2))
         elif kind == 5:
             sent = bytes((dice.pick((0, 0x80)), dice.pick((0xC0, 0xCA, 0xD0, 0xE4, 0x22, 0x88, 0x86, 0xFF)), 0, 0))
         elif kind == 6:
@@ -1125,13 +1422,13 @@ class Generator:
     def refused_issue(self):
         """A line that parses and that the card refuses with 5."""
         dice = self.dice
-        fields = [dice.bytes(16), 3, self.new_pin(), 3, self.new_pin(), 3, dice.below(2)]
+        fields = [dice.bytes(16), 3, self.new_pin(), 3, self.new_pin(), 3, dice.below(2), dice.bytes(16), 3]
         kind = dice.below(6)
         place = dice.pick((2, 4))
         if kind == 0:
-            fields[0] = dice.bytes(dice.pick((0, 1, 15, 17, 32, 299, 300)))
+            fields[dice.pick((0, 7))] = dice.bytes(dice.pick((0, 1, 15, 17, 32, 299, 300)))
         elif kind in (1, 2):
-            fields[dice.pick((1, 3, 5))] = dice.pick((0, 129, 255, 256, 257, 384, 65535))
+            fields[dice.pick((1, 3, 5, 8))] = dice.pick((0, 129, 255, 256, 257, 384, 65535))
         elif kind == 3:
             fields[place] = dice.digits(dice.pick((0, 1, 5, 5, 17, 17, 22, 100)))
         elif kind == 4:
@@ -1144,17 +1441,20 @@ class Generator:
 
     @staticmethod
     def issue_line(fields):
-        key, key_limit, admin, admin_limit, user, user_limit, mode = fields
-        return b"ISSUE\t%s\t%d\t%s\t%d\t%s\t%d\t%d" % (hex_of(key), key_limit, admin, admin_limit, user, user_limit, mode)
+        key, key_limit, admin, admin_limit, user, user_limit, mode, transport_key, transport_limit = fields
+        return b"ISSUE\t%s\t%d\t%s\t%d\t%s\t%d\t%d\t%s\t%d" % (
+            hex_of(key), key_limit, admin, admin_limit, user, user_limit, mode, hex_of(transport_key), transport_limit)
 
     def bad_line(self):
         """A line of outcome 9, or one of its good neighbours at an edge of the grammar."""
         dice = self.dice
         random = hex_of(dice.bytes(16))
+        # The transport key and its limit.
+        end = b"\t%s\t3" % random
         good = dice.pick((b"CMD\t00200001\t" + random, b"CMD\t0084000008\t" + random, b"RESET",
-                          b"ISSUE\t%s\t3\t123456\t3\t654321\t3\t%d" % (random, dice.below(2))))
-        # The edges of length have a wider share: each is met by one length only.
-        kind = dice.pick((0, 1, 2, 3, 4, 5, 6, 7, 8, 9, 10, 11, 12, 13, 14, 15, 11, 11, 12))
+                          b"ISSUE\t%s\t3\t123456\t3\t654321\t3\t%d%s" % (random, dice.below(2), end)))
+        # The edges of length and numbers of fields have a wider share: each is met by one of many only.
+        kind = dice.pick((0, 1, 2, 3, 4, 5, 6, 7, 8, 9, 10, 11, 12, 13, 14, 15, 11, 11, 12, 7, 7))
         if kind == 0:
             return b""
         if kind == 1:
@@ -1174,23 +1474,28 @@ class Generator:
         if kind == 7:
             return dice.pick((b"CMD\t00200001", b"CMD", b"CMD\t00200001\t%s\t%s" % (random, random), b"RESET\t",
                               b"ISSUE\t%s\t3\t123456\t3\t654321" % random, b"ISSUE",
-                              b"ISSUE\t%s\t3\t123456\t3\t654321\t3" % random,
-                              b"ISSUE\t%s\t3\t123456\t3\t654321\t3\t" % random,
-                              b"ISSUE\t%s\t3\t123456\t3\t654321\t3\t0\t0" % random))
+                              b"ISSUE\t%s\t3\t123456\t3\t654321\t3%s" % (random, end),
+                              b"ISSUE\t%s\t3\t123456\t3\t654321\t3\t%s" % (random, end),
+                              b"ISSUE\t%s\t3\t123456\t3\t654321\t3\t0" % random,
+                              b"ISSUE\t%s\t3\t123456\t3\t654321\t3\t0" % random,
+                              b"ISSUE\t%s\t3\t123456\t3\t654321\t3\t0" % random,
+                              b"ISSUE\t%s\t3\t123456\t3\t654321\t3\t0\t%s" % (random, random),
+                              b"ISSUE\t%s\t3\t123456\t3\t654321\t3\t0%s\t" % (random, end),
+                              b"ISSUE\t%s\t3\t123456\t3\t654321\t3\t0%s\t0" % (random, end)))
         if kind == 8:
             return dice.pick((b"RESET ", b" RESET", b"Reset", b"RESE", b"RESETS", b"CMDS\t00200001\t" + random,
                               b"CM\t00200001\t" + random, b"#", b"ISSUES", b"\x00", b"\xff\xfe", b"\r", b"-", b"\t\t"))
         if kind in (9, 10):
             # A limit or mode that is no number of the grammar; a limit of 0 and 65535 are numbers, and refused with 5.
-            limits = [b"3", b"3", b"3", b"1"]
-            limits[dice.below(4)] = dice.pick((b"", b"00", b"01", b"003", b"65536", b"65536", b"65536", b"99999", b"100000",
+            limits = [b"3", b"3", b"3", b"1", b"3"]
+            limits[dice.below(5)] = dice.pick((b"", b"00", b"01", b"003", b"65536", b"65536", b"65536", b"99999", b"100000",
                                                b"+3", b"-1", b"3 ", b" 3", b"3.0", b"0x3", b"A", b"0", b"65535", b"129",
                                                b"4294967299", b"18446744073709551619"))
-            return b"ISSUE\t%s\t%s\t123456\t%s\t654321\t%s\t%s" % (random, *limits)
+            return b"ISSUE\t%s\t%s\t123456\t%s\t654321\t%s\t%s\t%s\t%s" % (random, *limits[:4], random, limits[4])
         if kind == 11:
             # Lines of 1,024 and 1,025 bytes that parse but for their length.
             start = b"ISSUE\t" + random + b"\t3\t"
-            end = b"\t3\t654321\t3\t0"
+            end = b"\t3\t654321\t3\t0" + end
             length = dice.pick((1023, 1024, 1024, 1025, 1025, 1026, 2048, 5000))
             return start + dice.digits(length - len(start) - len(end)) + end
         if kind == 12:
@@ -1198,17 +1503,23 @@ class Generator:
             many = dice.pick((299, 300, 300, 301, 301, 302))
             return dice.pick((b"CMD\t%s\t%s" % (hex_of(dice.bytes(many)), random),
                               b"CMD\t00200001\t%s" % hex_of(dice.bytes(many)),
-                              b"ISSUE\t%s\t3\t123456\t3\t654321\t3\t0" % hex_of(dice.bytes(many))))
+                              b"ISSUE\t%s\t3\t123456\t3\t654321\t3\t0%s" % (hex_of(dice.bytes(many)), end),
+                              b"ISSUE\t%s\t3\t123456\t3\t654321\t3\t0\t%s\t3" % (random, hex_of(dice.bytes(many)))))
         if kind == 13:
             # The longest lines of the grammar's CMD, and longer ones: 300 bytes of command and some of random.
             return b"CMD\t%s\t%s" % (hex_of(dice.bytes(300)), hex_of(dice.bytes(dice.pick((208, 209, 210, 300)))))
         if kind == 14:
             return dice.bytes(dice.between(1, 40)).replace(b"\n", b"\t")
         # Fields in another order, and keys or PINs that are lower-case hex or empty.
-        return dice.pick((b"ISSUE\t%s\t3\t123456\t3\t654321\t3\t0" % random.lower(), b"ISSUE\t\t3\t\t3\t\t3\t0",
-                          b"ISSUE\t3\t%s\t123456\t3\t654321\t3\t0" % random,
-                          b"ISSUE\t%s\t123456\t3\t654321\t3\t3\t0" % random,
-                          b"ISSUE\t%s\t3\t123456\t3\t654321\t0\t3" % random,
+        return dice.pick((b"ISSUE\t%s\t3\t123456\t3\t654321\t3\t0%s" % (random.lower(), end), b"ISSUE\t\t3\t\t3\t\t3\t0\t\t3",
+                          b"ISSUE\t%s\t3\t123456\t3\t654321\t3\t0%s" % (random, end.lower()),
+                          b"ISSUE\t%s\t3\t123456\t3\t654321\t3\t0\t%s0\t3" % (random, random),
+                          b"ISSUE\t%s\t3\t123456\t3\t654321\t3\t0\t\t3" % random,
+                          b"ISSUE\t3\t%s\t123456\t3\t654321\t3\t0%s" % (random, end),
+                          b"ISSUE\t%s\t123456\t3\t654321\t3\t3\t0%s" % (random, end),
+                          b"ISSUE\t%s\t3\t123456\t3\t654321\t0\t3%s" % (random, end),
+                          b"ISSUE\t%s\t3\t123456\t3\t654321\t3\t0\t3\t%s" % (random, random),
+                          b"ISSUE\t%s\t3\t123456\t3\t654321\t3%s\t0" % (random, end),
                           b"CMD\t%s\t00200001" % random))
 
     # ---------------------------------------------------------------------------------------------------------- cards
@@ -1218,13 +1529,13 @@ class Generator:
         dice = self.dice
         style = dice.weighted((("deep", 5), ("mixed", 3), ("fragile", 4)))
         if style == "deep":
-            limits = [dice.pick((5, 10, 14, 15, 16, 17, 20, 127, 128)) for _ in range(3)]
+            limits = [dice.pick((5, 10, 14, 15, 16, 17, 20, 127, 128)) for _ in range(4)]
             self.care, lines = 0.97, dice.pick((300, 500, 800, 1500))
         elif style == "mixed":
-            limits = [dice.pick((1, 2, 3, 5, 10, 16, 17, 128)) for _ in range(3)]
+            limits = [dice.pick((1, 2, 3, 5, 10, 16, 17, 128)) for _ in range(4)]
             self.care, lines = 0.85, dice.pick((100, 200, 400))
         else:
-            limits = [dice.pick((1, 1, 2, 3)) for _ in range(3)]
+            limits = [dice.pick((1, 1, 2, 3)) for _ in range(4)]
             self.care, lines = 0.3, dice.pick((20, 40, 80))
         key = bytes(range(16)) if dice.chance(0.1) else dice.bytes(16)
         admin = self.new_pin()
@@ -1232,7 +1543,10 @@ class Generator:
         if self.card is not None:
             self.old_pins = [self.card.admin.value, self.card.user.value]
         self.patience = dice.pick((0.3, 0.8, 0.8, 0.97))
-        self.put(self.issue_line([key, limits[0], admin, limits[1], user, limits[2], dice.below(2)]))
+        # At times the same as the device key, which is allowed.
+        transport_key = bytes(range(16, 32)) if dice.chance(0.1) else key if dice.chance(0.05) else dice.bytes(16)
+        self.coding = dice.pick((0.02, 0.06, 0.12, 0.35))
+        self.put(self.issue_line([key, limits[0], admin, limits[1], user, limits[2], dice.below(2), transport_key, limits[3]]))
         return lines
 
     def before_a_card(self):
@@ -1263,7 +1577,7 @@ class Generator:
                 (self.use_file, 420), (self.show_pin, 130), (self.log_in_device, 55), (self.create, 60),
                 (self.select, 65), (self.create_folder, 30), (self.two_firms, 45), (self.change_pin, 28), (self.reload_pin, 26), (self.noise, 26),
                 (self.ask_challenge, 14), (self.fetch_nothing, 8), (self.fill_cyclic, 11), (self.fill_variable, 14),
-                (self.keep_notes, 3),
+                (self.keep_notes, 3), (self.use_codes, 70), (self.restore_codes, 40),
                 (self.pass_255, 1), (self.use_up_tries, 14), (self.read_all, 2), (self.fill_directory, 2),
                 (self.other_line, 72), (self.restart, 14), (self.use_current, 20)))()
         self.read_all()
@@ -1300,27 +1614,47 @@ def script_of(seed, most_lines):
 # The report
 # ---------------------------------------------------------------------------------------------------------------------
 
-FILE_COMMANDS = ("READ BINARY", "UPDATE BINARY", "READ RECORD", "UPDATE RECORD", "APPEND RECORD")
 COUNTS = tuple("63C%X" % left for left in range(16))
 
-# What each command can answer. "case" and "length" are the two places where 6700 stands in a command's checks.
+# What the five commands can answer with a code. "case" is case and Lc, before the code.
+BEFORE_THE_FILE = ("6A86", "6700 case", "6983", "6984", "6988", "6A82")
+CODED_LABELS = {
+    "READ BINARY": BEFORE_THE_FILE + (
+        "9000 28 current", "9000 28 SFI", "6981 2A", "6981 2C", "6981 2E", "6982 28", "6A84 28", "6700 28 length",
+        "9000 28 current, Le 00", "9000 28 SFI, Le 00", "6981 2A, Le 00", "6981 2C, Le 00", "6981 2E, Le 00", "6982 28, Le 00",
+        "6A84 28, Le 00"),
+    "UPDATE BINARY": BEFORE_THE_FILE + (
+        "9000 28 current", "9000 28 SFI", "6981 2A", "6981 2C", "6981 2E", "6982 28", "6A84 28", "6700 28 length"),
+    "READ RECORD": BEFORE_THE_FILE + (
+        "9000 2A current", "9000 2A SFI", "9000 2C current", "9000 2C SFI", "9000 2E current", "9000 2E SFI", "6981 28",
+        "6982 2A", "6982 2C", "6982 2E", "6A83 2A", "6A83 2C", "6A83 2E", "6Cxx 2A", "6Cxx 2C", "6Cxx 2E"),
+    "UPDATE RECORD": BEFORE_THE_FILE + (
+        "9000 2A current", "9000 2A SFI", "9000 2C current", "9000 2C SFI", "9000 2E current", "9000 2E SFI", "6981 28",
+        "6982 2A", "6982 2C", "6982 2E", "6A83 2A", "6A83 2C", "6A83 2E", "6700 2A length", "6700 2C length", "6700 2E length"),
+    "APPEND RECORD": BEFORE_THE_FILE + (
+        "9000 2C current", "9000 2C SFI", "9000 2C last byte", "9000 2E current", "9000 2E SFI", "9000 2E full", "6981 28", "6981 2A",
+        "6982 2C", "6982 2E", "6700 2C length", "6700 2E length", "6A84 2C", "6A84 2C by one"),
+}
+
+# What each command can answer. "case" and "length" are the two places where 6700 stands in a command's checks, and "no code"
+# is a command without one where the rights that are asked are held.
 EXPECTED = {
     "SELECT": ("9000 file", "9000 file before a directory", "9000 directory", "9000 directory again", "9000 root", "9000 from inside to the root",
                "6A86", "6700", "6A82", "6A82 for a file elsewhere"),
     "READ BINARY": ("9000 28 current", "9000 28 SFI", "6A86", "6700 case", "6A82", "6981 2A", "6981 2C", "6981 2E", "6982 28",
                     "6A84 28", "6700 28 length", "9000 28 current, Le 00", "9000 28 SFI, Le 00", "6981 2A, Le 00",
-                    "6981 2C, Le 00", "6981 2E, Le 00", "6982 28, Le 00", "6A84 28, Le 00"),
+                    "6981 2C, Le 00", "6981 2E, Le 00", "6982 28, Le 00", "6A84 28, Le 00", "6982 28 no code", "6982 28 no code, Le 00"),
     "UPDATE BINARY": ("9000 28 current", "9000 28 SFI", "6A86", "6700 case", "6A82", "6981 2A", "6981 2C", "6981 2E", "6982 28",
-                      "6A84 28", "6700 28 length"),
+                      "6A84 28", "6700 28 length", "6982 28 no code"),
     "READ RECORD": ("9000 2A current", "9000 2A SFI", "9000 2C current", "9000 2C SFI", "9000 2E current", "9000 2E SFI",
                     "6A86", "6700 case", "6A82", "6981 28", "6982 2A", "6982 2C", "6982 2E", "6A83 2A", "6A83 2C", "6A83 2E",
-                    "6Cxx 2A", "6Cxx 2C", "6Cxx 2E"),
+                    "6Cxx 2A", "6Cxx 2C", "6Cxx 2E", "6982 2A no code", "6982 2C no code", "6982 2E no code"),
     "UPDATE RECORD": ("9000 2A current", "9000 2A SFI", "9000 2C current", "9000 2C SFI", "9000 2E current", "9000 2E SFI",
                       "6A86", "6700 case", "6A82", "6981 28", "6982 2A", "6982 2C", "6982 2E", "6A83 2A", "6A83 2C", "6A83 2E",
-                      "6700 2A length", "6700 2C length", "6700 2E length"),
+                      "6700 2A length", "6700 2C length", "6700 2E length", "6982 2A no code", "6982 2C no code", "6982 2E no code"),
     "APPEND RECORD": ("9000 2C current", "9000 2C SFI", "9000 2C last byte", "9000 2E current", "9000 2E SFI", "9000 2E full",
                       "6A86", "6700 case", "6A82", "6981 28", "6981 2A", "6982 2C", "6982 2E", "6700 2C length",
-                      "6700 2E length", "6A84 2C", "6A84 2C by one"),
+                      "6700 2E length", "6A84 2C", "6A84 2C by one", "6982 2C no code", "6982 2E no code"),
     "VERIFY": ("9000", "6A86", "6700", "6983", "6A80") + COUNTS,
     "VERIFY query": ("9000", "6A86", "6983") + COUNTS[1:],
     "EXTERNAL AUTHENTICATE": ("9000", "6A86", "6700", "6983", "6984") + COUNTS,
@@ -1333,9 +1667,11 @@ EXPECTED = {
                        "6A84", "6A86 inside", "6700 inside", "6982 inside", "6A81 inside"),
     "GET CHALLENGE": ("9000", "6A86", "6700"),
     "GET RESPONSE": ("9000", "9000 Le 00", "9000 Le 00 of 256", "61xx", "6D00", "6A86", "6700", "6985", "6Cxx"),
+    **{name + WITH_A_CODE: labels for name, labels in CODED_LABELS.items()},
     "(broken frame)": ("6700",),
     "(other class)": ("6E00",),
     "(not in the list)": ("6D00",),
+    "(class 04, not in the list)": ("6D00",),
 }
 
 
@@ -1359,6 +1695,15 @@ class Report:
         self.shared = 0
         # The folder that was current before.
         self.folder_before = ROOT
+        # How often a right code was met by the bytes that it covers, by the length of its challenge, and by the tries that it restored.
+        self.covered = Counter()
+        self.challenges = Counter()
+        self.restored = Counter()
+        # The transport key's tries and the challenge before.
+        self.tries_before = 0
+        self.challenge_before = b""
+        # How often a code that was right was refused by a later check with tries restored.
+        self.refused_later = 0
         # How often a 2C record of each length was read, and the highest number that was.
         self.lengths = Counter()
         self.highest = 0
@@ -1377,6 +1722,7 @@ class Report:
             if sw is not None and name != "GET RESPONSE" and program.card.waiting:
                 self.waited[len(program.card.waiting)] += 1
             self.waited_before = len(program.card.waiting)
+            self.tries_before, self.challenge_before = program.card.transport.tries, program.card.challenge
             self.folder_before = program.card.folder
             self.full_before = {file: file.records == file.count for file in program.card.files if file.kind == cards.CYCLIC}
 
@@ -1387,11 +1733,13 @@ class Report:
             return "(broken frame)", label
         if sw == 0x6E00:
             return "(other class)", label
-        name = next((name for cla, ins, name, _ in cards.LIST if (cla, ins) == (sent[0], sent[1])), None)
+        name = NAMES.get((sent[0], sent[1]))
         if name is None:
-            return "(not in the list)", label
-        if name in FILE_COMMANDS:
-            return name, self.file_label(program.card, name, frame, sw)
+            return "(class 04, not in the list)" if sent[0] == cards.CODED else "(not in the list)", label
+        if name.removesuffix(WITH_A_CODE) in FILE_COMMANDS:
+            if sent[0] == cards.CODED:
+                self.note_code(program.card, name, frame, sw)
+            return name, self.file_label(program.card, name.removesuffix(WITH_A_CODE), frame, sw)
         elif name == "SELECT":
             return name, self.select_label(program.card, frame, sw)
         elif name == "CREATE FILE":
@@ -1445,15 +1793,25 @@ class Report:
             return label + (" Le 00 of 256" if self.waited_before == 256 else " Le 00")
         return label
 
+    def note_code(self, card, name, frame, sw):
+        """Counts the right codes."""
+        if not has_code_form(name, frame) or sw in (0x6A86, 0x6983, 0x6984, 0x6988):
+            return
+        self.covered[1 + len(frame.data)] += 1
+        self.challenges[len(self.challenge_before)] += 1
+        self.restored[card.transport.limit - self.tries_before] += 1
+        self.refused_later += sw != 0x9000 and self.tries_before < card.transport.limit
+
     def file_label(self, card, name, frame, sw):
         """The SW, where a file was found its type, and what parts one cause of the SW from another."""
         label = "%04X" % sw if sw & 0xFF00 != 0x6C00 else "6Cxx"
-        if sw == 0x6700 and frame.case != (2 if name.startswith("READ") else 3):
+        has_form = has_code_form(name, frame) if frame.is_coded else frame.case == (2 if name.startswith("READ") else 3)
+        if sw == 0x6700 and not has_form:
             return label + " case"
-        if sw in (0x6A86, 0x6A82):
+        if sw in (0x6A86, 0x6A82, 0x6983, 0x6984, 0x6988):
             return label
         # The file that was named: a refused command changes none, and one that ends 9000 makes it current.
-        sfi = (frame.p1 & 0x1F if frame.p1 & 0x80 else 0) if "BINARY" in name else frame.p2 >> 3
+        sfi = named_sfi(name, frame.p1, frame.p2)
         file = card.current if sw == 0x9000 else cards.named_file(card, sfi)
         label += " %02X" % file.kind
         if sfi and any(other.sfi == sfi and other.folder is not file.folder for other in card.files):
@@ -1461,6 +1819,8 @@ class Report:
         if sw != 0x6981:
             byte = file.read if name.startswith("READ") else file.write
             self.asked[byte, card.admin.held, card.user.held, card.device.held] += 1
+            if sw == 0x6982 and cards.is_allowed(card, byte):
+                label += " no code"
         if name == "READ RECORD" and sw == 0x9000 and file.kind == cards.VARIABLE:
             self.highest = max(self.highest, frame.p1)
         if name == "READ BINARY" and frame.le == 256:
@@ -1477,7 +1837,7 @@ class Report:
             return label + (" SFI" if sfi else " current")
         if sw == 0x6700:
             return label + " length"
-        if name == "APPEND RECORD" and sw == 0x6A84 and len(frame.data) == file.size - file.used:
+        if name == "APPEND RECORD" and sw == 0x6A84 and len(frame.data) - cards.CODE_SIZE * frame.is_coded == file.size - file.used:
             return label + " by one"
         return label
 
@@ -1501,11 +1861,18 @@ class Report:
         print("rights bytes asked with sets of held rights: %d of %d pairs, the rarest %d times" % (
             len(self.asked), 8 * len(GOOD_RIGHTS), min(self.asked.values(), default=0)))
         print("creation rights asked with sets of held rights: %d of %d pairs; files used by an SFI that others have elsewhere: %d" % (
-            len(self.created_by), 8 * len(GOOD_RIGHTS), self.shared))
+            len(self.created_by), 8 * len(GOOD_CREATION), self.shared))
         if self.shared == 0:
             missing.append("an SFI that files in other directories have too")
         print("2C records read: %d lengths, %s; the highest number is %d" % (
             len(self.lengths), ", ".join("%d of %d" % (self.lengths[length], length) for length in (1, 177, 178)), self.highest))
+        lengths = sorted(self.covered)
+        print("right codes: %d, over %d lengths of message, %s; %s; %d restored tries, %d of them refused by a later check" % (
+            sum(self.covered.values()), len(lengths), ", ".join("%d of %d" % (self.covered[length], length) for length in (5, 15, 16, 17, 32, 256)),
+            ", ".join("%d challenges of %d" % (self.challenges[length], length) for length in (4, 8, 16)),
+            sum(count for restored, count in self.restored.items() if restored), self.refused_later))
+        if not self.refused_later or min(self.challenges[length] for length in (4, 8, 16)) == 0:
+            missing.append("right codes of every kind")
         print("replies that waited: %d; %s" % (
             sum(self.waited.values()), ", ".join("%d of %d" % (self.waited[length], length) for length in (1, 2, 254, 255, 256))))
         for entry in missing:

@@ -26,6 +26,7 @@ MOST_SHOWN = 3
 
 RANDOM = bytes(range(16))
 GET_RESPONSE = (0x00, 0xC0)
+MODE_FIELD = 7
 
 
 # ---------------------------------------------------------------------------------------------------------------------
@@ -35,10 +36,10 @@ GET_RESPONSE = (0x00, 0xC0)
 
 def in_mode(line, mode):
     """An ISSUE line of a good mode with this one; other lines as they are."""
-    *fields, last = line.split(b"\t")
-    if fields[:1] == [b"ISSUE"] and len(fields) == 7 and last in (b"0", b"1"):
-        return b"\t".join(fields) + b"\t%d" % mode
-    return line
+    fields = line.split(b"\t")
+    if fields[0] == b"ISSUE" and len(fields) == 10 and fields[MODE_FIELD] in (b"0", b"1"):
+        fields[MODE_FIELD] = b"%d" % mode
+    return b"\t".join(fields)
 
 
 def is_get_response(line):

@@ -21,9 +21,9 @@ import selftest
 import text
 import text_cases
 
-SCRIPTS = 10
+SCRIPTS = 16
 LINES = 2000
-TEXTS = 10000
+TEXTS = 16000
 CONVERTED = 2000
 
 CARD, SCRIPT, TEXT, SELFTEST = "card.py", "script.py", "text.py", "selftest.py"
@@ -50,11 +50,42 @@ MAY_CREATE = """\
 """
 FOLDER_BYTES = """\
     _, first, second, right, last = data
-    if first != 0 or second != 0 or last != 0 or is_bad_rights_byte(right):
+    if first != 0 or second != 0 or last != 0 or is_bad_creation_right(right):
         return refused(0x6A80)
 """
 FOLDER_CLASH = "    if with_fid(card.folders, fid) is not None or with_fid(files_here(card), fid) is not None:\n"
 FILE_CLASH = "    if card.folder is ROOT and with_fid(card.folders, fid) is not None:\n        return refused(0x6986)\n"
+
+READ_BINARY = "    card.current = file\n    return bytes(area[begin:begin + length]), 0x9000\n\n\ndef update_binary"
+UPDATE_BINARY = "    card.current = file\n    area[begin:begin + length] = data\n    return DONE\n\n\ndef find_record"
+ANSWERED = "            answer = row(card, area, frame, random)\n"
+CHALLENGE_DROPPED = "    if row is not get_challenge or answer[1] != 0x9000:\n        card.challenge = NO_CHALLENGE\n"
+
+
+def kept_after(answer):
+    """The place above, but that a coded command with such an answer keeps the challenge."""
+    kept = "    if not (row and frame.is_coded and answer[1] %s) and (row" % answer
+    return CHALLENGE_DROPPED.replace("    if row", kept).replace("0x9000:\n", "0x9000):\n")
+
+
+WRONG_CODE = """\
+    if code != code_of(card.transport.value, card.challenge, message):
+        card.transport.tries -= 1
+        return 0x6988, b""
+"""
+RIGHT_CODE = "    card.transport.tries = card.transport.limit\n    return 0x9000, data\n"
+NO_TRIES = "    if card.transport.tries == 0:\n        return 0x6983, b\"\"\n"
+NO_CHALLENGE_YET = "    if card.challenge == NO_CHALLENGE:\n        return 0x6984, b\"\"\n    data, code"
+MESSAGE = "message = frame.header + bytes((len(frame.data),)) + data"
+ASKED_CODE = "    if asks_code(byte) and not frame.is_coded:\n        return False\n    return is_allowed(card, byte)\n"
+FILES_FIRST = """\
+    sw, data = form_and_code(card, frame, what)
+    if sw != 0x9000:
+        return sw, NOWHERE
+    file = named_file(card, sfi)
+    if file is None:
+        return 0x6A82, NOWHERE
+"""
 
 MUTANTS = (
     # Errors that look right.
@@ -120,13 +151,14 @@ MUTANTS = (
     (CARD, "or is_bad_rights_byte(read) or is_bad_rights_byte(write):",
      "or is_bad_rights_byte(read) or is_bad_rights_byte(write) or write in (0xC2, 0xC3, 0x82, 0x83, 0x42, 0x43, 0x03):",
      "bit 2 of the write right still bad"),
-    (CARD, "    if not is_allowed(card, right_of(file)):\n        return 0x6982, None\n",
-     "    asked = right_of(file)\n    if not is_allowed(card, asked if asked == NEVER else asked & ~ANY_BIT):\n"
-     "        return 0x6982, None\n", "bit 2 ignored in the record commands"),
-    (CARD, "    if not is_allowed(card, right_of(file)):\n        return 0x6982, None, 0, 0\n",
-     "    asked = right_of(file)\n    if not is_allowed(card, asked if asked == NEVER else asked & ~ANY_BIT):\n"
-     "        return 0x6982, None, 0, 0\n", "bit 2 ignored in the binary commands"),
-    (CARD, "if not is_allowed(card, file.write):", "if not is_allowed(card, file.write if file.write == NEVER else file.write & ~ANY_BIT):",
+    (CARD, "    if not may_use(card, frame, right_of(file)):\n        return 0x6982, None, b\"\"\n",
+     "    asked = right_of(file)\n    if not may_use(card, frame, asked if asked == NEVER else asked & ~ANY_BIT):\n"
+     "        return 0x6982, None, b\"\"\n", "bit 2 ignored in the record commands"),
+    (CARD, "    if not may_use(card, frame, right_of(file)):\n        return 0x6982, NOWHERE\n",
+     "    asked = right_of(file)\n    if not may_use(card, frame, asked if asked == NEVER else asked & ~ANY_BIT):\n"
+     "        return 0x6982, NOWHERE\n", "bit 2 ignored in the binary commands"),
+    (CARD, "if not may_use(card, frame, file.write):",
+     "if not may_use(card, frame, file.write if file.write == NEVER else file.write & ~ANY_BIT):",
      "bit 2 ignored in APPEND"),
     (CARD, "return 1 <= size <= 4096", "return 0 <= size <= 4096", "a file of no bytes"),
     (CARD, "return 1 <= size <= 4096", "return 1 <= size <= 4095", "no file of 4,096 bytes"),
@@ -164,11 +196,12 @@ MUTANTS = (
     (CARD, "0x30 <= byte <= 0x39", "0x30 <= byte <= 0x3A", "3A as a digit"),
     (CARD, "0x30 <= byte <= 0x39", "0x30 <= byte & 0x7F <= 0x39", "B0 as a digit"),
     # Framing.
-    (CARD, "Frame(2, sent[2], sent[3], b\"\", fifth or 256)", "Frame(2 if fifth else 1, sent[2], sent[3], b\"\", fifth or 256)",
+    (CARD, "Frame(2, header, b\"\", fifth or 256)", "Frame(2 if fifth else 1, header, b\"\", fifth or 256)",
      "case 1 with a trailing 00"),
     (CARD, "            return Frame(4,", "            return Frame(3,", "case 4 served as case 3"),
     (CARD, "        if length == 6 + fifth:", "        if length == 7 + fifth:", "a longer case 4"),
-    (CARD, "elif sent[0] not in (0x00, 0x80):", "elif sent[0] not in (0x00, 0x80, 0x04):", "class 04"),
+    (CARD, "CLASSES = (0x00, CODED, 0x80)", "CLASSES = (0x00, CODED, 0x80, 0x84)", "class 84"),
+    (CARD, "CLASSES = (0x00, CODED, 0x80)", "CLASSES = (0x00, 0x80)", "no class 04"),
     (CARD, "row = ROWS.get((sent[0], sent[1]))", "row = ROWS.get((0, sent[1])) or ROWS.get((0x80, sent[1]))",
      "instructions served in either class"),
     # Files.
@@ -181,20 +214,21 @@ MUTANTS = (
     (CARD, "elif 0x81 <= frame.p1 <= 0x9E:", "elif 0x80 <= frame.p1 <= 0x9E:", "P1 80 as the current file"),
     (CARD, "elif 0x81 <= frame.p1 <= 0x9E:", "elif 0x81 <= frame.p1 <= 0x9F:", "P1 9F as an SFI"),
     (CARD, "elif 0x81 <= frame.p1 <= 0x9E:", "elif frame.p1 & 0x1F not in (0, 31):", "P1 A1 as an SFI"),
-    (CARD, "    if offset >= file.size:\n        return 0x6A84, None, 0, 0\n", "", "no 6A84"),
+    (CARD, "    if offset >= file.size:\n        return 0x6A84, NOWHERE\n", "", "no 6A84"),
     (CARD, "    if offset >= file.size:", "    if offset > file.size:", "an offset at the end"),
     (CARD, "if offset + wanted > file.size:", "if offset + wanted >= file.size:", "one byte less"),
     (CARD, "if offset + wanted > file.size:", "if offset + wanted > file.size + 1:", "one byte more"),
-    (CARD, "find_bytes(card, frame, 3, write_right,", "find_bytes(card, frame, 3, read_right,", "UPDATE BINARY by the read right"),
-    (CARD, "find_bytes(card, frame, 2, read_right,", "find_bytes(card, frame, 2, write_right,", "READ BINARY by the write right"),
-    (CARD, "    card.current = file\n    begin = file.start + offset\n    return", "    begin = file.start + offset\n    return",
+    (CARD, "find_bytes(card, frame, WRITES, write_right,", "find_bytes(card, frame, WRITES, read_right,", "UPDATE BINARY by the read right"),
+    (CARD, "find_bytes(card, frame, READS, read_right,", "find_bytes(card, frame, READS, write_right,", "READ BINARY by the write right"),
+    (CARD, READ_BINARY, READ_BINARY.replace("    card.current = file\n", ""),
      "READ BINARY by SFI keeps the current file"),
-    (CARD, "    card.current = file\n    begin = file.start + offset\n    area", "    begin = file.start + offset\n    area",
+    (CARD, UPDATE_BINARY, UPDATE_BINARY.replace("    card.current = file\n", ""),
      "UPDATE BINARY by SFI keeps the current file"),
-    (CARD, "        return 0x6A82, None, 0, 0\n    if file.kind != BINARY:",
-     "        return 0x6A82, None, 0, 0\n    card.current = file\n    if file.kind != BINARY:",
+    (CARD, "        return 0x6A82, NOWHERE\n    if file.kind != BINARY:",
+     "        return 0x6A82, NOWHERE\n    card.current = file\n    if file.kind != BINARY:",
      "a refused binary command by SFI makes its file current"),
-    (CARD, "        return 0x6A82, None\n    if file.kind not in", "        return 0x6A82, None\n    card.current = file\n    if file.kind not in",
+    (CARD, "        return 0x6A82, None, b\"\"\n    if file.kind not in",
+     "        return 0x6A82, None, b\"\"\n    card.current = file\n    if file.kind not in",
      "a refused record command by SFI makes its file current"),
     (CARD, "if frame.p1 == 0 or frame.p2 & 0b111 != 0b100 or sfi == 31:", "if frame.p2 & 0b111 != 0b100 or sfi == 31:",
      "record number 0"),
@@ -209,14 +243,15 @@ MUTANTS = (
     (CARD, "return refused(0x6C00 | length)", "return refused(0x6700)", "6700 in the place of 6C"),
     (CARD, "        return refused(0x6C00 | length)\n    card.current = file\n",
      "        return refused(0x6C00 | length)\n", "READ RECORD by SFI keeps the current file"),
-    (CARD, "    card.current = file\n    area[begin:begin + length] = frame.data", "    area[begin:begin + length] = frame.data",
+    (CARD, "        return refused(0x6700)\n    card.current = file\n    area[begin:begin + length] = data",
+     "        return refused(0x6700)\n    area[begin:begin + length] = data",
      "UPDATE RECORD by SFI keeps the current file"),
-    (CARD, "find_record(card, area, frame, 3, write_right)", "find_record(card, area, frame, 3, read_right)",
+    (CARD, "find_record(card, area, frame, WRITES, write_right)", "find_record(card, area, frame, WRITES, read_right)",
      "UPDATE RECORD by the read right"),
-    (CARD, "if not is_allowed(card, file.write):", "if not is_allowed(card, file.read):", "APPEND by the read right"),
-    (CARD, "    if file.kind not in (VARIABLE, CYCLIC):\n        return refused(0x6981)\n    if not is_allowed(card, file.write):\n"
+    (CARD, "if not may_use(card, frame, file.write):", "if not may_use(card, frame, file.read):", "APPEND by the read right"),
+    (CARD, "    if file.kind not in (VARIABLE, CYCLIC):\n        return refused(0x6981)\n    if not may_use(card, frame, file.write):\n"
      "        return refused(0x6982)\n",
-     "    if not is_allowed(card, file.write):\n        return refused(0x6982)\n    if file.kind not in (VARIABLE, CYCLIC):\n"
+     "    if not may_use(card, frame, file.write):\n        return refused(0x6982)\n    if file.kind not in (VARIABLE, CYCLIC):\n"
      "        return refused(0x6981)\n", "APPEND checks the right before the type"),
     (CARD, "file.newest = 0 if file.records == 0 else (file.newest + 1) % file.count",
      "file.newest = (file.newest + 1) % file.count", "place 1 first (no script can tell: places do not show)"),
@@ -244,29 +279,28 @@ MUTANTS = (
     (CARD, "min(256, left) if frame.le == 256 else frame.le", "min(frame.le, left)", "any Le past the end gives what is left"),
     (CARD, "min(256, left) if frame.le == 256 else frame.le", "min(frame.le, left) if frame.le >= 255 else frame.le",
      "Le FF past the end gives what is left"),
-    (CARD, "wanted = wanted_of(file.size - offset)", "wanted = wanted_of(file.size)",
+    (CARD, "wanted = wanted_of(file.size - offset, data)", "wanted = wanted_of(file.size, data)",
      "Le 00 counts from the file's start, and is 6700"),
-    (CARD, "    wanted = wanted_of(file.size - offset)\n    if offset + wanted > file.size:",
-     "    wanted = wanted_of(file.size)\n    if offset + wanted > file.size and frame.le != 256:",
+    (CARD, "    wanted = wanted_of(file.size - offset, data)\n    if offset + wanted > file.size:",
+     "    wanted = wanted_of(file.size, data)\n    if offset + wanted > file.size and frame.le != 256:",
      "Le 00 counts from the file's start, and reads past the end"),
-    (CARD, "wanted = wanted_of(file.size - offset)",
-     "wanted = wanted_of(file.size - offset)\n    offset = 0 if frame.le == 256 else offset",
+    (CARD, "wanted = wanted_of(file.size - offset, data)",
+     "wanted = wanted_of(file.size - offset, data)\n    offset = 0 if frame.le == 256 else offset",
      "Le 00 reads from the file's start"),
-    (CARD, "    wanted = wanted_of(file.size - offset)\n    if offset + wanted > file.size:",
-     "    wanted = wanted_of(AREA_SIZE - file.start - offset)\n    if offset + wanted > file.size and frame.le != 256:",
+    (CARD, "    wanted = wanted_of(file.size - offset, data)\n    if offset + wanted > file.size:",
+     "    wanted = wanted_of(AREA_SIZE - file.start - offset, data)\n    if offset + wanted > file.size and frame.le != 256:",
      "Le 00 reads to the end of the area"),
     (CARD, "    if offset >= file.size:", "    if offset >= file.size + (frame.le == 256):", "Le 00 at the end gives no bytes"),
-    (CARD, "    if offset >= file.size:\n        return 0x6A84, None, 0, 0\n",
-     "    if offset >= file.size:\n        return 0x6700 if frame.le == 256 else 0x6A84, None, 0, 0\n",
+    (CARD, "    if offset >= file.size:\n        return 0x6A84, NOWHERE\n",
+     "    if offset >= file.size:\n        return 0x6700 if frame.le == 256 else 0x6A84, NOWHERE\n",
      "Le 00 behind the end is 6700"),
-    (CARD, "if not is_allowed(card, right_of(file)):\n        return 0x6982, None, 0, 0",
-     "if frame.le != 256 and not is_allowed(card, right_of(file)):\n        return 0x6982, None, 0, 0",
+    (CARD, "if not may_use(card, frame, right_of(file)):\n        return 0x6982, NOWHERE",
+     "if frame.le != 256 and not may_use(card, frame, right_of(file)):\n        return 0x6982, NOWHERE",
      "Le 00 without the right"),
-    (CARD, "if not is_allowed(card, right_of(file)):\n        return 0x6982, None, 0, 0",
-     "if not is_allowed(card, right_of(file)) and not (frame.le == 256 and right_of(file) == NEVER):\n"
-     "        return 0x6982, None, 0, 0", "Le 00 where the right is never"),
-    (CARD, "    card.current = file\n    begin = file.start + offset\n    return",
-     "    card.current = file if length == frame.le else card.current\n    begin = file.start + offset\n    return",
+    (CARD, "if not may_use(card, frame, right_of(file)):\n        return 0x6982, NOWHERE",
+     "if not may_use(card, frame, right_of(file)) and not (frame.le == 256 and right_of(file) == NEVER):\n"
+     "        return 0x6982, NOWHERE", "Le 00 where the right is never"),
+    (CARD, READ_BINARY, READ_BINARY.replace("= file", "= file if length == frame.le else card.current"),
      "Le 00 that gives less than 256 by SFI keeps the current file"),
     (CARD, "return bytes(area[begin:begin + length]), 0x9000\n\n\ndef update_binary",
      "return bytes(area[begin:begin + length]).ljust(frame.le, b\"\\x00\"), 0x9000\n\n\ndef update_binary",
@@ -274,8 +308,8 @@ MUTANTS = (
     (CARD, "return bytes(area[begin:begin + length]), 0x9000\n\n\ndef update_binary",
      "return bytes(area[begin:begin + length]), 0x9000 if length == frame.le else 0x6282\n\n\ndef update_binary",
      "6282 for less than 256"),
-    (CARD, "        return len(frame.data)\n",
-     "        frame.data = frame.data[:left]\n        return len(frame.data)\n", "UPDATE BINARY past the end writes what fits"),
+    (CARD, "        return len(data)\n\n    sw, (file, begin, length, data)",
+     "        return min(left, len(data))\n\n    sw, (file, begin, length, data)", "UPDATE BINARY past the end writes what fits"),
     (CARD, "    card.current = file\n    return bytes(area[begin:begin + length]), 0x9000\n\n\ndef update_record",
      "    card.current = file\n    if frame.le == 256:\n        length = min(256, file.start + file.extent - begin)\n"
      "    return bytes(area[begin:begin + length]), 0x9000\n\n\ndef update_record",
@@ -332,15 +366,15 @@ MUTANTS = (
      "6C with the length byte counted"),
     (CARD, "if frame.le != 256 and frame.le != length:", "if frame.le != 256 and frame.le != length and file.kind != VARIABLE:",
      "any Le for 2C"),
-    (CARD, "    if len(frame.data) != length:\n        return refused(0x6700)\n    card.current = file\n    area",
-     "    if len(frame.data) > length:\n        return refused(0x6700)\n    length = len(frame.data)\n    card.current = file\n    area",
+    (CARD, "    if len(data) != length:\n        return refused(0x6700)\n    card.current = file\n    area",
+     "    if len(data) > length:\n        return refused(0x6700)\n    length = len(data)\n    card.current = file\n    area",
      "UPDATE with less than the record"),
-    (CARD, "    if len(frame.data) != length:\n        return refused(0x6700)\n    card.current = file\n",
-     "    if len(frame.data) != length and file.kind != VARIABLE:\n        return refused(0x6700)\n    card.current = file\n"
-     "    if len(frame.data) != length:\n        rest = area[begin + length:file.start + file.used]\n"
-     "        if file.used - length + len(frame.data) > file.size or len(frame.data) > LONGEST_RECORD:\n"
-     "            return refused(0x6700)\n        file.used += len(frame.data) - length\n"
-     "        changed = bytes((len(frame.data),)) + frame.data + rest\n"
+    (CARD, "    if len(data) != length:\n        return refused(0x6700)\n    card.current = file\n",
+     "    if len(data) != length and file.kind != VARIABLE:\n        return refused(0x6700)\n    card.current = file\n"
+     "    if len(data) != length:\n        rest = area[begin + length:file.start + file.used]\n"
+     "        if file.used - length + len(data) > file.size or len(data) > LONGEST_RECORD:\n"
+     "            return refused(0x6700)\n        file.used += len(data) - length\n"
+     "        changed = bytes((len(data),)) + data + rest\n"
      "        area[begin - 1:begin - 1 + len(changed)] = changed\n        return DONE\n",
      "UPDATE takes any length and moves the rest"),
     (CARD, "    card.current = file\n    return DONE\n\n\ndef append_cyclic",
@@ -379,8 +413,8 @@ MUTANTS = (
      "        return refused(0x6984)\n",
      "    if card.challenge == NO_CHALLENGE:\n        return refused(0x6984)\n    if card.device.tries == 0:\n"
      "        return refused(0x6983)\n", "the challenge before the tries"),
-    (CARD, ".ljust(16, b\"\\x00\")", ".rjust(16, b\"\\x00\")", "a challenge filled in front"),
-    (CARD, ".ljust(16, b\"\\x00\")", ".ljust(16, b\"\\x80\")", "a challenge filled with 80"),
+    (CARD, "card.challenge.ljust(16, b\"\\x00\")", "card.challenge.rjust(16, b\"\\x00\")", "a challenge filled in front"),
+    (CARD, "card.challenge.ljust(16, b\"\\x00\")", "card.challenge.ljust(16, b\"\\x80\")", "a challenge filled with 80"),
     (CARD, "    pin.value = frame.data\n", "    pin.value = frame.data\n    pin.held = False\n", "a change that drops the right"),
     (CARD, "    pin.value = frame.data\n", "    pass\n", "a change that changes nothing"),
     (CARD, "    if not pin.held:\n        return refused(0x6982)", "    if not card.admin.held:\n        return refused(0x6982)",
@@ -429,8 +463,8 @@ MUTANTS = (
      "a directory selected that does not become current"),
     (CARD, "        card.folder = ROOT\n        card.current = None\n", "        card.current = None\n",
      "3F00 that stays in the directory"),
-    (CARD, "    return refused(0x6A82)\n\n\ndef find_bytes",
-     "    card.folder = card.current = ROOT\n    return refused(0x6A82)\n\n\ndef find_bytes",
+    (CARD, "    return refused(0x6A82)\n\n\n# ---",
+     "    card.folder = card.current = ROOT\n    return refused(0x6A82)\n\n\n# ---",
      "a SELECT that finds nothing and returns to the root"),
     (CARD, RESET, RESET.replace("    card.folder = ROOT\n", ""), "a reset that stays in the directory"),
     (CARD, RESET, "    card.folders.clear()\n    card.files = [file for file in card.files if file.folder is ROOT]\n" + RESET,
@@ -478,10 +512,10 @@ MUTANTS = (
     (CARD, "first != 0 or second != 0 or last != 0 or", "first != 0 or second != 0 or", "any fifth byte for a directory"),
     (CARD, "first != 0 or second != 0 or last != 0 or", "first != 0 or second != 0 or is_bad_rights_byte(last) or",
      "a write right for a directory"),
-    (CARD, "last != 0 or is_bad_rights_byte(right):", "last != 0:", "any creation right"),
-    (CARD, "last != 0 or is_bad_rights_byte(right):", "last != 0 or is_bad_rights_byte(right) or right == NEVER:",
+    (CARD, "last != 0 or is_bad_creation_right(right):", "last != 0:", "any creation right"),
+    (CARD, "last != 0 or is_bad_creation_right(right):", "last != 0 or is_bad_creation_right(right) or right == NEVER:",
      "0F as a bad creation right"),
-    (CARD, "last != 0 or is_bad_rights_byte(right):", "last != 0 or is_bad_rights_byte(right) or right & ANY_BIT:",
+    (CARD, "last != 0 or is_bad_creation_right(right):", "last != 0 or is_bad_creation_right(right) or right & ANY_BIT:",
      "no alternatives in a creation right"),
     (CARD, "    _, first, second, right, last = data\n", "    _, first, second, last, right = data\n",
      "the creation right as the last byte"),
@@ -603,8 +637,7 @@ MUTANTS = (
      "    if len(random) != 16:\n        card.waiting = b''\n        return 3, 0", "outcome 3 discards what waits"),
     (CARD, "if row is not get_challenge or answer[1] != 0x9000:",
      "if row is not get_challenge or answer[1] != 0x9000 or card.mode == FETCHED:", "no challenge stands where it waits"),
-    (CARD, "    card.current = file\n    begin = file.start + offset\n    return",
-     "    card.current = file if card.mode == AT_ONCE else card.current\n    begin = file.start + offset\n    return",
+    (CARD, READ_BINARY, READ_BINARY.replace("= file", "= file if card.mode == AT_ONCE else card.current"),
      "READ BINARY that ends 61xx keeps the current file"),
     (CARD, "        return refused(0x6C00 | length)\n    card.current = file\n",
      "        return refused(0x6C00 | length)\n    card.current = file if card.mode == AT_ONCE else card.current\n",
@@ -627,7 +660,8 @@ MUTANTS = (
     (CARD, "        return refused(0x6985)\n", "        return refused(0x6C00)\n", "6C00 where nothing waits"),
     (CARD, "len(card.waiting) if frame.le == 256 else frame.le", "frame.le", "Le 00 is 256 at GET RESPONSE"),
     (CARD, "len(card.waiting) if frame.le == 256 else frame.le", "min(frame.le, len(card.waiting))", "too high an Le gives what waits"),
-    (CARD, "    if wanted > len(card.waiting):\n", "    if wanted >= len(card.waiting) and frame.le != 256:\n", "an Le that is just the count refused"),
+    (CARD, "    if wanted > len(card.waiting):\n", "    if wanted >= len(card.waiting) and frame.le != 256:\n",
+     "an Le that is just the count refused"),
     (CARD, "    if wanted > len(card.waiting):\n", "    if wanted != len(card.waiting):\n", "an Le below the count refused"),
     (CARD, "    if wanted > len(card.waiting):\n", "    if wanted > len(card.waiting) + 1:\n", "one more than waits"),
     (CARD, "        return refused(0x6C00 | len(card.waiting))\n", "        return refused(0x6700)\n", "6700 for too high an Le"),
@@ -643,11 +677,23 @@ MUTANTS = (
     (SCRIPT, "        if outcome == 0:\n            self.card = issued",
      "        if self.card is not None:\n            self.card.waiting = b''\n        if outcome == 0:\n            self.card = issued",
      "a refused ISSUE discards what waits"),
-    (SCRIPT, 'b"ISSUE" and len(fields) == 8:', 'b"ISSUE" and len(fields) >= 8:', "ISSUE with more fields"),
-    (SCRIPT, '        if fields[0] == b"ISSUE" and len(fields) == 8:\n            return self.issue(fields)\n',
-     '        if fields[0] == b"ISSUE" and len(fields) in (7, 8):\n            return self.issue((fields + [b"0"])[:8])\n', "ISSUE without a mode"),
-    (SCRIPT, "        key_limit, admin_limit, user_limit, mode = numbers\n", "        key_limit, admin_limit, mode, user_limit = numbers\n",
-     "the mode before the user PIN's limit"),
+    (SCRIPT, 'b"ISSUE" and len(fields) == 10:', 'b"ISSUE" and len(fields) >= 10:', "ISSUE with more fields"),
+    (SCRIPT, '        if fields[0] == b"ISSUE" and len(fields) == 10:\n            return self.issue(fields)\n',
+     '        if fields[0] == b"ISSUE" and len(fields) in (9, 10):\n'
+     '            return self.issue(fields if len(fields) == 10 else fields[:7] + [b"0"] + fields[7:])\n', "ISSUE without a mode"),
+    (SCRIPT, '        if fields[0] == b"ISSUE" and len(fields) == 10:\n            return self.issue(fields)\n',
+     '        if fields[0] == b"ISSUE" and len(fields) in (8, 10):\n'
+     '            return self.issue((fields + [b"00" * 16, b"10"])[:10])\n', "ISSUE without a transport key"),
+    (SCRIPT, "        key_limit, admin_limit, user_limit, mode, transport_limit = numbers\n",
+     "        key_limit, admin_limit, mode, user_limit, transport_limit = numbers\n", "the mode before the user PIN's limit"),
+    (SCRIPT, "        key_limit, admin_limit, user_limit, mode, transport_limit = numbers\n",
+     "        transport_limit, admin_limit, user_limit, mode, key_limit = numbers\n", "the limits of the two keys exchanged"),
+    (SCRIPT, "        key, transport_key = bytes_of(fields[1]), bytes_of(fields[8])\n",
+     "        transport_key, key = bytes_of(fields[1]), bytes_of(fields[8])\n", "the two keys exchanged"),
+    (SCRIPT, "for place in (2, 4, 6, 7, 9)]", "for place in (2, 4, 6, 7, 2)]", "the device key's limit for the transport key"),
+    (SCRIPT, "if key is None or transport_key is None or None in numbers:",
+     "transport_key = transport_key or b\"\"\n        if key is None or None in numbers:",
+     "a transport key that is no hex is refused by 5"),
     # The script program.
     (SCRIPT, "LONGEST_LINE = 1024", "LONGEST_LINE = 1023", "lines up to 1,023"),
     (SCRIPT, "LONGEST_LINE = 1024", "LONGEST_LINE = 1025", "lines up to 1,025"),
@@ -666,6 +712,184 @@ MUTANTS = (
     (SCRIPT, "        if self.card is None:\n            return NOT_A_RECORD\n", "        if self.card is None:\n            return 4, b'', None\n",
      "RESET before a card is 4"),
 )
+
+# Errors in codes on the bus. Scripts must notice them, and the self-test too.
+IN_CODES = (
+    # The code.
+    (CARD, '    whole = message + b"\\x80"\n', '    whole = message + b"\\x80" if len(message) % 16 else message\n',
+     "padding left out at a multiple of 16"),
+    (CARD, '    whole = message + b"\\x80"\n', "    whole = message\n", "padding by 00 alone"),
+    (CARD, '    whole = message + b"\\x80"\n', '    whole = message + b"\\x80" + bytes(16)\n', "a block of padding too many"),
+    (CARD, '    whole = message + b"\\x80"\n', '    whole = message + b"\\x00"\n', "padding by 00, always"),
+    (CARD, 'mac(key, challenge.ljust(16, b"\\x00"), message)', "mac(key, bytes(16), message)", "an initial value of 00"),
+    (CARD, 'mac(key, challenge.ljust(16, b"\\x00"), message)', 'mac(key, challenge.rjust(16, b"\\x00"), message)',
+     "the challenge of a code filled in front"),
+    (CARD, 'mac(key, challenge.ljust(16, b"\\x00"), message)', 'mac(key, challenge.ljust(16, b"\\x80"), message)',
+     "the challenge of a code filled with 80"),
+    (CARD, 'mac(key, challenge.ljust(16, b"\\x00"), message)', 'mac(key, challenge[:8].ljust(16, b"\\x00"), message)',
+     "eight bytes of the challenge at most"),
+    (CARD, 'mac(key, challenge.ljust(16, b"\\x00"), message)', 'mac(key, encrypt(key, challenge.ljust(16, b"\\x00")), message)',
+     "the challenge enciphered first"),
+    (CARD, "message)[:CODE_SIZE]\n", "message)[-CODE_SIZE:]\n", "the rightmost four bytes"),
+    (CARD, "    for place in range(0, len(blocks), 16):\n        chained", "    for place in range(0, 16, 16):\n        chained",
+     "the first block alone"),
+    (CARD, "    for place in range(0, len(blocks), 16):\n        chained",
+     "    for place in range(len(blocks) - 16, len(blocks), 16):\n        chained", "the last block alone"),
+    (CARD, "zip(chained, blocks[place:place + 16])", "zip(chained if place == 0 else bytes(16), blocks[place:place + 16])",
+     "blocks that are not chained"),
+    (CARD, MESSAGE, "message = frame.header + bytes((len(data),)) + data", "Lc without the code in the message"),
+    (CARD, MESSAGE, "message = frame.header + data", "Lc not covered"),
+    (CARD, MESSAGE, MESSAGE + ' + (b"" if frame.le is None else bytes((frame.le & 0xFF,)))', "Le covered"),
+    (CARD, MESSAGE, "message = frame.header[1:] + bytes((len(frame.data),)) + data", "CLA not covered"),
+    (CARD, MESSAGE, 'message = b"\\x00" + frame.header[1:] + bytes((len(frame.data),)) + data', "CLA covered as 00"),
+    (CARD, MESSAGE, "message = frame.header[:2] + bytes((len(frame.data),)) + data", "P1 and P2 not covered"),
+    (CARD, MESSAGE, "message = frame.header + bytes((len(frame.data),))", "data not covered"),
+    (CARD, MESSAGE, "message = data or frame.header", "the header not covered where there are data"),
+    (CARD, WRONG_CODE, WRONG_CODE.replace("if code != code_of(card.transport.value, card.challenge, message):",
+                                          "if code[:3] != code_of(card.transport.value, card.challenge, message)[:3]:"), "three bytes compared"),
+    (CARD, WRONG_CODE, WRONG_CODE.replace("if code != code_of(card.transport.value, card.challenge, message):",
+                                          "if code[1:] != code_of(card.transport.value, card.challenge, message)[1:]:"),
+     "the last three bytes compared"),
+    (CARD, WRONG_CODE, WRONG_CODE.replace("card.transport.value", "card.device.value"), "a code under the device key"),
+    # Tries.
+    (CARD, ANSWERED, "            before = card.transport.tries\n" + ANSWERED
+     + "            if frame.is_coded and answer[1] not in (0x9000, 0x6988):\n                card.transport.tries = before\n",
+     "tries restored only at 9000"),
+    (CARD, ANSWERED, "            before = card.transport.tries\n" + ANSWERED
+     + "            if frame.is_coded and answer[1] in (0x6A82, 0x6981, 0x6982, 0x6A83, 0x6A84):\n                card.transport.tries = before\n",
+     "a later refusal undoes the tries"),
+    (CARD, ANSWERED, "            before = card.transport.tries\n" + ANSWERED
+     + "            if frame.is_coded and answer[1] in (0x6A82, 0x6981, 0x6982):\n                card.transport.tries = max(0, before - 1)\n",
+     "a later refusal costs a try"),
+    (CARD, ANSWERED, "            before = card.transport.tries\n" + ANSWERED
+     + "            if frame.is_coded and answer[1] >> 8 == 0x6C:\n                card.transport.tries = before\n", "6C undoes the tries"),
+    (CARD, RIGHT_CODE, "    return 0x9000, data\n", "a right code restores nothing"),
+    (CARD, RIGHT_CODE, RIGHT_CODE.replace("= card.transport.limit", "= min(card.transport.limit, card.transport.tries + 1)"),
+     "a right code gives one try back"),
+    (CARD, RIGHT_CODE, "    for credential in (card.device, card.admin, card.user):\n        credential.tries = credential.limit\n" + RIGHT_CODE,
+     "a right code restores all credentials' tries"),
+    (CARD, RIGHT_CODE, "    card.device.tries = card.device.limit\n    card.device.held = True\n" + RIGHT_CODE,
+     "the transport key opens the device right"),
+    (CARD, RIGHT_CODE, "    card.admin.tries = card.admin.limit\n    card.admin.held = True\n" + RIGHT_CODE,
+     "the transport key opens the admin right"),
+    (CARD, WRONG_CODE, WRONG_CODE.replace("        card.transport.tries -= 1\n", ""), "a wrong code costs nothing"),
+    (CARD, WRONG_CODE, WRONG_CODE.replace("card.transport.tries -= 1",
+     "card.device.tries = max(0, card.device.tries - 1)\n        card.device.held = False"),
+     "a wrong code costs a try of the device key"),
+    (CARD, WRONG_CODE, WRONG_CODE.replace("        return", "        card.device.held = card.admin.held = card.user.held = False\n        return"),
+     "a wrong code drops the rights"),
+    (CARD, WRONG_CODE, WRONG_CODE.replace("        return", "        card.current = None\n        return"), "a wrong code drops the current file"),
+    (CARD, WRONG_CODE, WRONG_CODE.replace("return 0x6988", "return 0x6983 if card.transport.tries == 0 else 0x6988"),
+     "a wrong code at the last try is 6983"),
+    (CARD, WRONG_CODE, WRONG_CODE.replace("return 0x6988", "return 0x63C0 | min(card.transport.tries, 15)"), "63Cx for a wrong code"),
+    (CARD, WRONG_CODE, WRONG_CODE.replace("return 0x6988", "return 0x6982"), "6982 for a wrong code"),
+    (CARD, "    card.user.tries = card.user.limit\n", "    card.user.tries = card.user.limit\n    card.transport.tries = card.transport.limit\n",
+     "a reload restores the transport key"),
+    (CARD, "        credential.held = False\n    card.current",
+     "        credential.held = False\n    card.transport.tries = card.transport.limit\n    card.current",
+     "a reset restores the transport key"),
+    (CARD, "    return compare(card.device, frame.data, expected)\n",
+     "    if frame.data == expected:\n        card.transport.tries = card.transport.limit\n    return compare(card.device, frame.data, expected)\n",
+     "a device login restores the transport key"),
+    # The order.
+    (CARD, NO_TRIES, "", "no 6983: tries below 0"),
+    (CARD, NO_CHALLENGE_YET, "    data, code", "no 6984: a challenge of 00"),
+    (CARD, NO_TRIES + NO_CHALLENGE_YET, "    if card.challenge == NO_CHALLENGE:\n        return 0x6984, b\"\"\n" + NO_TRIES + "    data, code",
+     "6984 before 6983"),
+    (CARD, NO_TRIES, "    if card.transport.tries == 0 and card.challenge != NO_CHALLENGE:\n        return 0x6983, b\"\"\n",
+     "6983 only with a challenge"),
+    (CARD, NO_CHALLENGE_YET, NO_CHALLENGE_YET.replace("        return 0x6984", "        card.transport.tries -= 1\n        return 0x6984"),
+     "6984 costs a try"),
+    (CARD, FILES_FIRST, "    file = named_file(card, sfi)\n    if file is None:\n        return 0x6A82, NOWHERE\n"
+     "    sw, data = form_and_code(card, frame, what)\n    if sw != 0x9000:\n        return sw, NOWHERE\n", "6A82 before the code in the binary commands"),
+    (CARD, FILES_FIRST, FILES_FIRST.replace("    sw, data", "    file = named_file(card, sfi)\n"
+                                            "    if file is not None and not is_allowed(card, right_of(file)):\n"
+                                            "        return 0x6982, NOWHERE\n    sw, data"), "the right before the code in the binary commands"),
+    (CARD, "        return 0x6A86, None, b\"\"\n    sw, data = form_and_code", "        return 0x6A86, None, b\"\"\n"
+     "    file = named_file(card, sfi)\n    if file is None and frame.is_coded and frame.case in (3, 4):\n        return 0x6A82, None, b\"\"\n"
+     "    sw, data = form_and_code", "6A82 before the code in the record commands"),
+    (CARD, "        return refused(0x6A86)\n    sw, data = form_and_code(card, frame, WRITES)\n",
+     "        return refused(0x6A86)\n    file = named_file(card, sfi)\n    if file is not None and file.kind not in (VARIABLE, CYCLIC):\n"
+     "        return refused(0x6981)\n    sw, data = form_and_code(card, frame, WRITES)\n", "6981 before the code in APPEND"),
+    (CARD, "    if frame.p1 & 0x80 == 0:\n",
+     "    if frame.is_coded and card.challenge == NO_CHALLENGE:\n        return 0x6984, NOWHERE\n    if frame.p1 & 0x80 == 0:\n",
+     "6984 before 6A86"),
+    (CARD, "    # A read becomes case 4 with", "    if card.transport.tries == 0:\n        return 0x6983, b\"\"\n    # A read becomes case 4 with",
+     "6983 before 6700"),
+    # The form.
+    (CARD, "len(frame.data) <= CODE_SIZE):", "len(frame.data) < CODE_SIZE):", "a write of Lc 04, without data"),
+    (CARD, "len(frame.data) <= CODE_SIZE):", "len(frame.data) <= CODE_SIZE + 1):", "no write of Lc 05"),
+    (CARD, "frame.case != 4 or len(frame.data) != CODE_SIZE):", "frame.case != 4 or len(frame.data) < CODE_SIZE):", "a read of Lc 05"),
+    (CARD, "if what == READS and (frame.case != 4 or len(frame.data) != CODE_SIZE):",
+     "if frame.case == 3 and what == READS:\n        frame.le = 256\n    if what == READS and (frame.case not in (3, 4) or len(frame.data) != CODE_SIZE):",
+     "a read of case 3"),
+    (CARD, "if what == WRITES and (frame.case != 3 or", "if what == WRITES and (frame.case not in (3, 4) or", "a write of case 4"),
+    (CARD, RIGHT_CODE, RIGHT_CODE.replace("0x9000, data", "0x9000, frame.data"), "the code counted and written as data"),
+    # Class and list.
+    (CARD, "row = ROWS.get((sent[0], sent[1]))", "row = ROWS.get((sent[0], sent[1])) or ROWS.get((sent[0] & 0x80, sent[1]))",
+     "every command in class 04"),
+    (CARD, "        if row is None:\n            answer = refused(0x6D00)\n",
+     "        if row is None:\n            answer = refused(0x6E00 if frame.is_coded else 0x6D00)\n", "6E00 for class 04 with another INS"),
+    (CARD, "    if row is get_response:\n        return answer\n",
+     "    if row is get_response or sent[:2] == b\"\\x04\\xC0\" and frame is not None and card.mode == FETCHED:\n        return answer\n",
+     "04 C0 keeps what waits and the challenge"),
+    (CARD, '    (CODED, 0xE2, "APPEND RECORD with a code", append_record),\n', "", "no APPEND with a code"),
+    (CARD, '    (CODED, 0xB0, "READ BINARY with a code", read_binary),\n', "", "no READ BINARY with a code"),
+    # The challenge.
+    (CARD, CHALLENGE_DROPPED, kept_after("== 0x9000"),
+     "the challenge kept after a right code"),
+    (CARD, CHALLENGE_DROPPED, kept_after("== 0x6988"),
+     "the challenge kept after a wrong code"),
+    (CARD, CHALLENGE_DROPPED, kept_after("in (0x6A82, 0x6981, 0x6982, 0x6A83)"),
+     "the challenge kept after a code that is refused later"),
+    (CARD, CHALLENGE_DROPPED, kept_after("in (0x6700, 0x6A86)"),
+     "the challenge kept after a coded command of another form"),
+    # Rights.
+    (CARD, ASKED_CODE, "    return is_allowed(card, byte)\n", "class 00 let through"),
+    (CARD, ASKED_CODE, ASKED_CODE.replace("if asks", "if frame.case != 2 and asks"), "class 00 let through to read"),
+    (CARD, ASKED_CODE, ASKED_CODE.replace("if asks", "if frame.case != 3 and asks"), "class 00 let through to write"),
+    (CARD, ASKED_CODE, ASKED_CODE.replace("not frame.is_coded", "not frame.is_coded and not is_allowed(card, byte & ~CODE_BIT | DEVICE_BIT)"),
+     "class 00 let through with the device right"),
+    (CARD, ASKED_CODE, "    if asks_code(byte):\n        return frame.is_coded\n    return is_allowed(card, byte)\n",
+     "a code in the place of the rights"),
+    (CARD, ASKED_CODE, "    if asks_code(byte) and byte & ANY_BIT:\n        return frame.is_coded or is_allowed(card, byte)\n" + ASKED_CODE,
+     "codes as an alternative of bit 2"),
+    (CARD, ASKED_CODE, ASKED_CODE.replace("if asks_code(byte) and not frame.is_coded:", "if asks_code(byte) != frame.is_coded:"),
+     "a code refused where none is asked"),
+    (CARD, ASKED_CODE, ASKED_CODE.replace("is_allowed(card, byte)", "is_allowed(card, byte & ~CODE_BIT if frame.is_coded else byte)"),
+     "0F opened by a code and the device"),
+    (CARD, "if not may_use(card, frame, file.write):", "if not is_allowed(card, file.write):", "class 00 let through by APPEND"),
+    (CARD, "    if byte == NEVER:\n        return False\n    return is_bad_creation_right", "    return is_bad_creation_right",
+     "0F as a bad right of a file"),
+    (CARD, "return is_bad_creation_right(byte & ~CODE_BIT)", "return is_bad_creation_right(byte)", "bit 3 still bad"),
+    (CARD, "return is_bad_creation_right(byte & ~CODE_BIT)", "return byte != ANY_BIT | CODE_BIT and is_bad_creation_right(byte & ~CODE_BIT)",
+     "06 as a good byte"),
+    (CARD, "return is_bad_creation_right(byte & ~CODE_BIT)", "return byte == CODE_BIT or is_bad_creation_right(byte & ~CODE_BIT)",
+     "04 as a bad byte"),
+    (CARD, "return is_bad_creation_right(byte & ~CODE_BIT)", "return byte & 0x06 == 0x06 or is_bad_creation_right(byte & ~CODE_BIT)",
+     "bits 2 and 3 together as bad"),
+    (CARD, "return is_bad_creation_right(byte & ~CODE_BIT)", "return is_bad_creation_right(byte & ~0x0C)", "bit 4 as good as bit 3"),
+    (CARD, "return is_bad_creation_right(byte & ~CODE_BIT)", "return is_bad_creation_right(byte & ~0x14)", "14 as a good byte"),
+    (CARD, "last != 0 or is_bad_creation_right(right):", "last != 0 or is_bad_rights_byte(right):", "a directory's right with bit 3 taken"),
+    (CARD, "CODE_BIT = 0x04", "CODE_BIT = 0x08", "bit 4 in bit 3's place"),
+    (CARD, "    if byte & DEVICE_BIT:\n", "    if byte & DEVICE_BIT or byte & CODE_BIT:\n", "bit 3 asks the device right"),
+    # Mode 1, and where a coded command works.
+    (CARD, "    if card.mode == FETCHED and answer[0] != b\"\":", "    if card.mode == FETCHED and answer[0] != b\"\" and not frame.is_coded:",
+     "a coded read gives its data at once in mode 1"),
+    (CARD, READ_BINARY, READ_BINARY.replace("= file", "= card.current if frame.is_coded else file"),
+     "READ BINARY with a code by SFI keeps the current file"),
+    (CARD, "    if len(transport_key) != 16 or not is_limit(transport_limit):\n        return 5, Card()\n",
+     "    if not is_limit(transport_limit):\n        return 5, Card()\n",
+     "a transport key of any length at issue"),
+    (CARD, "    if len(transport_key) != 16 or not is_limit(transport_limit):", "    if len(transport_key) != 16:",
+     "a transport limit of any size at issue"),
+    (CARD, "    card.transport = Credential(transport_key, transport_limit)\n", "    card.transport = Credential(transport_key, key_limit)\n",
+     "the device limit for the transport key"),
+    (CARD, "    card.transport = Credential(transport_key, transport_limit)\n", "    card.transport = Credential(key, transport_limit)\n",
+     "the device key for the transport key"),
+)
+CODE_SELFTESTS = ("test_codes_refused", "test_codes_order", "test_codes_tries", "test_codes_challenge", "test_codes_rights",
+                  "test_codes_fetched", "test_codes_served", "test_code", "test_codes_message", "test_framing", "test_calls", "test_folder_soundness")
 
 # Errors in what no script shows: unsound states, a lent area of another size, free bytes. The self-test must notice them.
 UNSHOWN = (
@@ -697,6 +921,7 @@ UNSHOWN = (
     (CARD, "    file.used += 1 + len(data)\n",
      "    file.used += 1 + len(data)\n    area[file.start + file.used:file.start + file.size] = bytes(file.size - file.used)\n",
      "an APPEND that clears what is free"),
+    (CARD, "    if card.transport.held:\n        return False\n", "", "a right of the transport key that is held"),
     (CARD, "    if card.mode not in MODES:\n        return False\n", "", "a sound mode 2"),
     (CARD, "    if card.mode not in MODES:\n", "    if card.mode > 2:\n", "a sound mode of 2, and of none higher"),
     (CARD, "MOST_WAITING if card.mode == FETCHED else 0", "MOST_WAITING if card.mode != AT_ONCE else 1", "a byte that waits in mode 0"),
@@ -775,9 +1000,25 @@ IN_LINES = (
      "rights read in another order"),
     (TEXT, "    card.device.held, card.admin.held, card.user.held = [read_flag(right) for right in rights]\n",
      "    [read_flag(right) for right in rights]\n", "rights dropped, as by a reset"),
-    (TEXT, "    card.device, card.admin, card.user = read_credential(lines), read_credential(lines), read_credential(lines)\n",
-     "    card.device, card.user, card.admin = read_credential(lines), read_credential(lines), read_credential(lines)\n",
+    (TEXT, "    card.device, card.admin, card.user, card.transport = [", "    card.device, card.user, card.admin, card.transport = [",
      "the user PIN read before the admin PIN"),
+    (TEXT, "    card.device, card.admin, card.user, card.transport = [", "    card.transport, card.admin, card.user, card.device = [",
+     "the transport key read first"),
+    (TEXT, "card.user, card.transport = [read_credential(lines) for _ in range(4)]\n",
+     "card.user = [read_credential(lines) for _ in range(3)]\n"
+     "    card.transport = read_credential(lines) if lines.next_has(3) else cards.Credential(bytes(16), 1)\n", "a text from before R-9"),
+    (TEXT, "(card.device, card.admin, card.user, card.transport)]\n", "(card.device, card.admin, card.user)]\n", "no line for the transport key"),
+    (TEXT, "(card.device, card.admin, card.user, card.transport)]\n", "(card.transport, card.device, card.admin, card.user)]\n",
+     "the transport key written first"),
+    (CARD, "    if len(card.transport.value) != 16:\n        return False\n", "", "a sound transport key of any length"),
+    (CARD, "    if len(card.transport.value) != 16:\n", "    if not is_pin(card.transport.value):\n", "a transport key of digits"),
+    (CARD, "    for credential in (card.device, card.admin, card.user, card.transport):\n", "    for credential in (card.device, card.admin, card.user):\n",
+     "a sound transport key with any limit and tries"),
+    (CARD, "return is_bad_creation_right(byte & ~CODE_BIT)", "return is_bad_creation_right(byte)", "no sound file that asks for a code"),
+    (CARD, "return is_bad_creation_right(byte & ~CODE_BIT)", "return byte != 0x06 and is_bad_creation_right(byte & ~CODE_BIT)",
+     "a sound right of 06"),
+    (CARD, "        if is_bad_creation_right(folder.right):\n", "        if is_bad_rights_byte(folder.right):\n",
+     "a sound creation right with bit 3"),
     (TEXT, "        card.challenge = read_bytes(challenge)\n", "        read_bytes(challenge)\n", "no challenge kept"),
     (TEXT, "        card.waiting = read_bytes(waiting)\n", "        read_bytes(waiting)\n", "no waiting bytes kept"),
     (TEXT, "    if waiting != NONE:\n", '    if waiting not in (NONE, b""):\n', "an empty field for nothing waiting"),
@@ -916,11 +1157,11 @@ IN_LINES = (
     (CARD, "        fids.add(folder.fid)\n",
      "        if folder.fid & 0x1F in {fid & 0x1F for fid in fids}:\n            return False\n        fids.add(folder.fid)\n",
      "directories that have to differ in their low bits"),
-    (CARD, "        if is_bad_rights_byte(folder.right):\n            return False\n", "", "any creation right of a sound card"),
-    (CARD, "        if is_bad_rights_byte(folder.right):\n", "        if is_bad_rights_byte(folder.right) or folder.right == NEVER:\n",
+    (CARD, "        if is_bad_creation_right(folder.right):\n            return False\n", "", "any creation right of a sound card"),
+    (CARD, "        if is_bad_creation_right(folder.right):\n", "        if is_bad_creation_right(folder.right) or folder.right == NEVER:\n",
      "no sound creation right of 0F"),
-    (CARD, "        if is_bad_rights_byte(folder.right):\n",
-     "        if is_bad_rights_byte(folder.right) or folder.right & ANY_BIT and folder.right != NEVER:\n",
+    (CARD, "        if is_bad_creation_right(folder.right):\n",
+     "        if is_bad_creation_right(folder.right) or folder.right & ANY_BIT and folder.right != NEVER:\n",
      "no sound creation right with alternatives"),
     (CARD, "        if file.folder is ROOT and file.fid in fids:\n            return False\n", "", "a directory with a root file's FID"),
     (CARD, "        if file.folder is ROOT and file.fid in fids:\n", "        if file.fid in fids:\n",
@@ -1007,7 +1248,8 @@ OLD_FIELDS = "        return lines.take(count), ROOT_FIELD\n"
 NO_FOLDERS = "    for file in card.files:\n        file.folder = cards.ROOT\n    card.folder, card.folders = cards.ROOT, []\n"
 # Errors in texts that are converted. Changed texts and the self-test must notice them.
 IN_CONVERSIONS = (
-    (TEXT, TO_OLD_REFUSAL, "    if len(buffer) < len(text) - 5 * (1 + len(card.files)):\n        return SHORT_TEXT, 0\n" + TO_OLD_REFUSAL, "10 before 13"),
+    (TEXT, TO_OLD_REFUSAL, "    if len(buffer) < len(text) - 5 * (1 + len(card.files)):\n        return SHORT_TEXT, 0\n" + TO_OLD_REFUSAL,
+     "10 before 13"),
     (TEXT, TO_OLD_REFUSAL, "    if not buffer:\n        return SHORT_TEXT, 0\n" + TO_OLD_REFUSAL, "10 before 13 where there is no room at all"),
     (TEXT, TO_OLD_REFUSAL, NO_FOLDERS, "a directory lost silently"),
     (TEXT, TO_OLD_REFUSAL, "    if any(file.folder is not cards.ROOT for file in card.files):\n        return FOLDER_PRESENT, 0\n" + NO_FOLDERS,
@@ -1017,7 +1259,8 @@ IN_CONVERSIONS = (
     (TEXT, TO_OLD_REFUSAL, "    if len(card.folders) > 1:\n        return FOLDER_PRESENT, 0\n" + NO_FOLDERS, "one directory lost silently"),
     (TEXT, TO_OLD_REFUSAL, "    if card.folders:\n        return BAD_TEXT, 0\n", "11 for a directory"),
     (TEXT, TO_OLD_REFUSAL, "    if card.folders:\n        return FOLDER_PRESENT, len(text)\n", "a count with 13"),
-    (TEXT, TO_OLD_REFUSAL, "    if card.folders:\n        buffer[:1] = text[:len(buffer[:1])]\n        return FOLDER_PRESENT, 0\n", "a byte written with 13"),
+    (TEXT, TO_OLD_REFUSAL, "    if card.folders:\n        buffer[:1] = text[:len(buffer[:1])]\n        return FOLDER_PRESENT, 0\n",
+     "a byte written with 13"),
     (TEXT, "    found = from_text(text, NEW)\n",
      '    if any(line.count(b"\\t") == 1 for line in text.split(b"\\n")):\n        return FOLDER_PRESENT, 0\n    found = from_text(text, NEW)\n',
      "13 before 11"),
@@ -1124,7 +1367,9 @@ def fails_selftest(tested, names):
                 getattr(tested, name)()
             except Exception:  # As above.
                 return True
-    return tested.failed > 0
+            if tested.failed > 0:
+                return True
+    return False
 
 
 def changed_texts():
@@ -1137,7 +1382,7 @@ def conversion(texts, form, tried):
     """What becomes of a text that is given in that form, with room for every text, with none, and with a byte less than the last."""
     convert = texts.to_new if form == text.OLD else texts.to_old
     made = []
-    for room in (9518, 0, None):
+    for room in (9559, 0, None):
         buffer = bytearray(b"\xEE" * (max(made[0][1] - 1, 0) if room is None else room))
         made.append((*convert(tried, buffer), bytes(buffer)))
     return made
@@ -1174,7 +1419,7 @@ def main():
         lines = script.lines_of(generate.script_of(seed, LINES))
         tests.append((lines, script.run(lines)))
     passed, failed, needed = 0, 0, []
-    for file, old, new, error in MUTANTS:
+    for file, old, new, error in MUTANTS + IN_CODES:
         noticed = lines_until_noticed(mutated(file, old, new)[SCRIPT].run, tests)
         if CANNOT_SHOW in error:
             as_expected = noticed is None
@@ -1204,7 +1449,7 @@ def main():
         else:
             failed += 1
             print("FAILED: %s: not noticed by %d texts to convert" % (error, len(converted)))
-    for mutants, names in ((UNSHOWN, SELFTESTS), (IN_LINES + IN_CALLS, TEXT_SELFTESTS), (IN_CONVERSIONS, CONVERSION_SELFTESTS)):
+    for mutants, names in ((IN_CODES, CODE_SELFTESTS), (UNSHOWN, SELFTESTS), (IN_LINES + IN_CALLS, TEXT_SELFTESTS), (IN_CONVERSIONS, CONVERSION_SELFTESTS)):
         for file, old, new, error in mutants:
             if fails_selftest(mutated(file, old, new)[SELFTEST], names):
                 passed += 1

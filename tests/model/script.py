@@ -1,4 +1,7 @@
-"""The script program of document 01, with the mode of R-6, over the model of the card, from standard input to standard output."""
+"""The script program of document 01, with the mode of R-6 and the transport key of R-9, over the model of the card.
+
+It goes from standard input to standard output.
+"""
 
 import argparse
 import re
@@ -49,7 +52,7 @@ class Program:
         fields = line.split(b"\t")
         if fields[0] == b"CMD" and len(fields) == 3:
             return self.command(fields)
-        if fields[0] == b"ISSUE" and len(fields) == 8:
+        if fields[0] == b"ISSUE" and len(fields) == 10:
             return self.issue(fields)
         if fields[0] == b"RESET" and len(fields) == 1:
             return self.reset()
@@ -65,12 +68,13 @@ class Program:
         return 0, bytes(self.reply[:written - 2]), self.reply[written - 2] << 8 | self.reply[written - 1]
 
     def issue(self, fields):
-        key = bytes_of(fields[1])
-        numbers = [number_of(fields[place]) for place in (2, 4, 6, 7)]
-        if key is None or None in numbers:
+        key, transport_key = bytes_of(fields[1]), bytes_of(fields[8])
+        numbers = [number_of(fields[place]) for place in (2, 4, 6, 7, 9)]
+        if key is None or transport_key is None or None in numbers:
             return NOT_A_RECORD
-        key_limit, admin_limit, user_limit, mode = numbers
-        outcome, issued = cards.issue(self.area, key, key_limit, fields[3], admin_limit, fields[5], user_limit, mode)
+        key_limit, admin_limit, user_limit, mode, transport_limit = numbers
+        outcome, issued = cards.issue(
+            self.area, key, key_limit, fields[3], admin_limit, fields[5], user_limit, mode, transport_key, transport_limit)
         # A refused ISSUE keeps the earlier card.
         if outcome == 0:
             self.card = issued

@@ -1,12 +1,13 @@
-"""Checks the model itself against document 01 and requests R-1, R-2 and R-4 to R-7 of document 02, with the new form of R-8.
+"""Checks the model itself against document 01 and requests R-1, R-2 and R-4 to R-9 of document 02.
 
-The expected answers are worked out from the papers.
+The expected answers are worked out from the papers, and codes by the openssl command line.
 """
 
 import argparse
 import sys
 
 import card as cards
+import codes
 import generate
 import script
 import text as texts
@@ -15,6 +16,7 @@ import text_cases
 RANDOM = "00112233445566778899AABBCCDDEEFF"
 KEY = "000102030405060708090A0B0C0D0E0F"
 CIPHERTEXT = "69C4E0D86A7B0430D8CDB78070B4C55A"
+TRANSPORT_KEY = "101112131415161718191A1B1C1D1E1F"
 
 passed, failed = 0, 0
 
@@ -31,9 +33,12 @@ def check(name, actual, expected):
 class Session:
     """A script that is written and answered line by line. An answer is "DATA SW", "SW", or the outcome alone."""
 
-    def __init__(self, key=KEY, key_limit=128, admin="87654321", admin_limit=5, user="123456", user_limit=3, mode=0):
+    def __init__(self, key=KEY, key_limit=128, admin="87654321", admin_limit=5, user="123456", user_limit=3, mode=0,
+                 transport_key=TRANSPORT_KEY, transport_limit=10):
         self.program = script.Program()
-        self.line("ISSUE\t%s\t%d\t%s\t%d\t%s\t%d\t%d" % (key, key_limit, admin, admin_limit, user, user_limit, mode))
+        self.transport_key = transport_key
+        self.line("ISSUE\t%s\t%d\t%s\t%d\t%s\t%d\t%d\t%s\t%d" % (
+            key, key_limit, admin, admin_limit, user, user_limit, mode, transport_key, transport_limit))
 
     def line(self, text):
         outcome, data, sw = self.program.answer(text.encode("latin-1"))
@@ -63,11 +68,26 @@ class Session:
                 return joined + " " + sw
             check("61 and what remains", int(sw[2:], 16), len(self.program.card.waiting) & 0xFF)
 
+    def coded(self, header, data="", le="", challenge=16):
+        """INS, P1 and P2 in class 04, with data, the code that openssl gives and Le; before it a challenge of so many bytes."""
+        self.send("00840000%02X" % challenge)
+        return self.send(coded(header, data, le, challenge, self.transport_key))
+
+    def tries_of_codes(self):
+        return self.program.card.transport.tries
+
     def admin(self):
         return self.send("0020000008 3837363534333231")
 
     def user(self):
         return self.send("0020000106 313233343536")
+
+
+def coded(header, data="", le="", challenge=16, key=TRANSPORT_KEY):
+    """A command of class 04 with the code that openssl gives for so many bytes of RANDOM."""
+    data = data.replace(" ", "")
+    message = "04" + header.replace(" ", "") + "%02X" % (len(data) // 2 + 4) + data
+    return message + codes.code(key, RANDOM[:2 * challenge], message) + le
 
 
 def device_session(**options):
@@ -100,7 +120,7 @@ def test_cipher():
 
 def test_example():
     text = """\
-ISSUE	000102030405060708090A0B0C0D0E0F	128	87654321	5	123456	3	0
+ISSUE	000102030405060708090A0B0C0D0E0F	128	87654321	5	123456	3	0	101112131415161718191A1B1C1D1E1F	10
 CMD	0020000106313131313131	R
 CMD	00200001	R
 CMD	0020000106313233343536	R
@@ -206,7 +226,7 @@ def test_errors_that_look_right():
 
 def test_calls():
     def state(mode=0):
-        outcome, made = cards.issue(area, bytes(16), 3, b"123456", 3, b"123456", 3, mode)
+        outcome, made = cards.issue(area, bytes(16), 3, b"123456", 3, b"123456", 3, mode, bytes(16), 3)
         assert outcome == 0
         return made
 
@@ -247,13 +267,14 @@ def test_calls():
     check("data that wait are not in the reply", reply.hex().upper(), "6104" + "55" * 298)
 
     marked = bytearray(b"\xAA" * 4096)
-    good = (bytes(16), 1, b"123456", 128, b"0123456789012345", 1, 0)
+    good = (bytes(16), 1, b"123456", 128, b"0123456789012345", 1, 0, bytes(16), 128)
     check("issue", cards.issue(marked, *good)[0], 0)
     check("issue clears the area", bytes(marked), bytes(4096))
     for place, value in ((0, bytes(15)), (0, bytes(17)), (1, 0), (1, 129), (3, 0), (3, 129), (5, 0), (5, 129),
                          (2, b"12345"), (2, b"12345678901234567"), (2, b"12345/"), (2, b"12345:"),
                          (4, b"12345"), (4, b"12345678901234567"), (4, b"/23456"), (4, b":23456"), (4, b""),
-                         (6, 2), (6, 3), (6, 128), (6, 255), (6, 256), (6, 257), (6, 65535)):
+                         (6, 2), (6, 3), (6, 128), (6, 255), (6, 256), (6, 257), (6, 65535),
+                         (7, b""), (7, bytes(15)), (7, bytes(17)), (7, bytes(32)), (8, 0), (8, 129), (8, 256), (8, 257), (8, 65535)):
         marked = bytearray(b"\xAA" * 4096)
         arguments = list(good)
         arguments[place] = value
@@ -261,8 +282,12 @@ def test_calls():
         check("issue with %r" % (value,), (outcome, snapshot(blank), marked == b"\xAA" * 4096),
               (5, snapshot(cards.Card()), True))
     for mode in (0, 1):
-        outcome, made = cards.issue(bytearray(4096), *good[:6], mode)
+        outcome, made = cards.issue(bytearray(4096), *good[:6], mode, *good[7:])
         check("issue with mode %d" % mode, (outcome, made.mode, made.waiting), (0, mode, b""))
+    for limit in (1, 2, 127, 128):
+        outcome, made = cards.issue(bytearray(4096), *good[:7], b"K" * 16, limit)
+        check("issue with a transport key", (outcome, made.transport.value, made.transport.limit, made.transport.tries, made.transport.held),
+              (0, b"K" * 16, limit, limit, False))
     check("issue with an area of 4,095", cards.issue(bytearray(4095), *good)[0], 2)
     check("issue checks the area first", cards.issue(bytearray(4095), b"", *good[1:])[0], 2)
 
@@ -280,12 +305,16 @@ def test_calls():
     for owner, field, value in (
             (held.device, "value", bytes(15)), (held.admin, "value", b"12345"), (held.user, "value", b"12345A"),
             (held.user, "limit", 129), (held.user, "limit", 0), (held.user, "tries", 4), (held.user, "tries", -1),
+            (held.transport, "value", bytes(15)), (held.transport, "value", bytes(17)), (held.transport, "value", b""),
+            (held.transport, "limit", 9), (held.transport, "limit", 0), (held.transport, "limit", 129), (held.transport, "tries", 11),
+            (held.transport, "tries", -1), (held.transport, "held", True),
             (held.device, "tries", 127), (binary, "fid", 0x0002), (binary, "fid", 0x0020), (binary, "fid", 0x001F),
             (binary, "kind", 0x29), (binary, "size", 0), (binary, "size", 4097), (binary, "records", 1),
             (binary, "newest", 1), (fixed, "records", 1), (fixed, "newest", 1), (fixed, "count", 1), (fixed, "count", 255),
             (fixed, "length", 0), (fixed, "length", 179), (cyclic, "records", 3), (cyclic, "newest", 2),
             (cyclic, "newest", 1), (binary, "read", 0x02), (cyclic, "write", 0x8F), (binary, "write", 0x0E), (fixed, "read", 0x12),
-            (fixed, "write", 0xC6), (cyclic, "read", 0x02), (cyclic, "start", 19),
+            (fixed, "write", 0x06), (cyclic, "read", 0x02), (cyclic, "start", 19), (binary, "read", 0x06), (binary, "write", 0x0C),
+            (fixed, "read", 0x14), (cyclic, "write", 0x24), (variable, "write", 0x06), (variable, "read", 0x0D), (fixed, "write", 0xCF),
             (binary, "used", 1), (fixed, "used", 1), (cyclic, "used", 1), (variable, "records", 1), (variable, "newest", 1),
             (variable, "used", -1), (variable, "used", 1), (variable, "used", 2), (variable, "used", 3), (variable, "used", 5),
             (variable, "used", 9), (variable, "size", 1), (variable, "size", 3), (variable, "size", 4097),
@@ -298,11 +327,16 @@ def test_calls():
         check("unsound with %s %r" % (field, value), cards.is_sound(held, area), False)
         setattr(owner, field, kept)
     for owner, field, value in ((binary, "read", 0xC2), (binary, "write", 0x82), (fixed, "read", 0x42), (cyclic, "write", 0x03),
-                                (variable, "read", 0xC3), (variable, "write", 0x0F)):
+                                (variable, "read", 0xC3), (variable, "write", 0x0F),
+                                (binary, "read", 0x04), (binary, "write", 0x44), (fixed, "write", 0xC6), (cyclic, "read", 0x05),
+                                (cyclic, "write", 0x47), (variable, "read", 0x86), (variable, "write", 0xC4), (fixed, "read", 0x07)):
         kept = getattr(owner, field)
         setattr(owner, field, value)
         check("sound with %s %02X" % (field, value), cards.is_sound(held, area), True)
         setattr(owner, field, kept)
+    for tries in range(11):
+        held.transport.tries = tries
+        check("sound with %d tries of the transport key" % tries, cards.is_sound(held, area), True)
     held.mode = 1
     for length, expected in ((0, True), (1, True), (255, True), (256, True), (257, False), (512, False)):
         held.waiting = b"\x5A" * length
@@ -336,6 +370,7 @@ def test_folder_soundness():
             (True, inside, "fid", 0x5101), (False, inside, "fid", 0x5102), (True, inside, "fid", 0x0001), (False, inside, "fid", 0x0002),
             (False, inside, "fid", 0x5200), (False, inside, "fid", 0x521F), (True, inside, "fid", 0x521E),
             (False, first, "right", 0x02), (False, first, "right", 0x04), (False, second, "right", 0x8F), (False, second, "right", 0x0E),
+            (False, first, "right", 0x44), (False, first, "right", 0xC6), (False, first, "right", 0x07), (False, second, "right", 0xC4),
             (False, first, "right", 0x10), (False, first, "right", 0x05), (True, first, "right", 0x00), (True, first, "right", 0x0F),
             (True, second, "right", 0xC2), (True, second, "right", 0xC1), (True, second, "right", 0x03), (True, second, "right", 0x82),
             (False, inside, "folder", stranger), (False, in_root, "folder", stranger), (True, inside, "folder", second),
@@ -393,7 +428,7 @@ def test_folders():
             ("80E05183 05 2800010000", "9000")):
         check("create %s" % sent, session.send(sent), expected)
 
-    # Every creation right: good ones as a file's, others 6A80.
+    # Every creation right: good ones as a file's that asks no code, others 6A80.
     for byte in range(256):
         session = device_session()
         check("creation right %02X" % byte, session.send("80E05101 05 380000%02X00" % byte), "9000" if byte in ASKED else "6A80")
@@ -845,7 +880,7 @@ def snapshot(made):
     def place(folder):
         return made.folders.index(folder) if folder in made.folders else folder
 
-    return (fields(made.device), fields(made.admin), fields(made.user),
+    return (fields(made.device), fields(made.admin), fields(made.user), fields(made.transport),
             tuple(fields(file) + (place(file.folder),) for file in made.files), tuple(fields(folder) for folder in made.folders),
             made.files.index(made.current) if made.current in made.files else made.current, place(made.folder), made.challenge,
             made.mode, made.waiting)
@@ -856,6 +891,7 @@ LINED = """\
 000102030405060708090A0B0C0D0E0F	128	128
 3837363534333231	5	5
 313233343536	3	2
+101112131415161718191A1B1C1D1E1F	10	10
 1	0	0	0104	0011223344556677	0	-	3F00
 0101	2800210001	0	0	3F00
 A100000000000000000000000000000000000000000000000000000000000000
@@ -868,7 +904,7 @@ C1C2D1D20000
 01AA02BBCC000000
 """
 # Whole files end with these of its lines.
-FILE_ENDS = (4, 7, 9, 11, 13)
+FILE_ENDS = (5, 8, 10, 12, 14)
 
 
 def lined_session():
@@ -908,7 +944,7 @@ def with_lines(number, *new):
 
 def with_waiting(mode, waiting):
     """The lines above with this mode and these bytes waiting."""
-    return with_lines(4, "1\t0\t0\t0104\t0011223344556677\t%s\t%s\t3F00" % (mode, waiting))
+    return with_lines(5, "1\t0\t0\t0104\t0011223344556677\t%s\t%s\t3F00" % (mode, waiting))
 
 
 def test_text_example():
@@ -930,6 +966,7 @@ def test_text_example():
 000102030405060708090A0B0C0D0E0F	128	128
 3837363534333231	5	5
 313233343536	3	3
+101112131415161718191A1B1C1D1E1F	10	10
 0	0	0	-	-	0	-	3F00
 """)
     # The lines say all that a call can tell: each state here is another one, and so is its text.
@@ -939,17 +976,18 @@ def test_text_example():
         session.send(sent)
         seen.append(texts.to_text(session.program.card, session.program.area).decode().splitlines()[1:])
     user = "31323334353637383930313233343536"
+    transport = TRANSPORT_KEY + "\t10\t10"
     check("as commands change it", seen, [
-        ["3837363534333231\t5\t5", user + "\t1\t1", "0\t0\t0\t-\t00112233\t0\t-\t3F00"],
-        ["3837363534333231\t5\t5", user + "\t1\t1", "0\t0\t0\t-\t" + RANDOM + "\t0\t-\t3F00"],
-        ["3837363534333231\t5\t5", user + "\t1\t1", "0\t1\t0\t-\t-\t0\t-\t3F00"],
-        ["3837363534333231\t5\t5", user + "\t1\t0", "0\t1\t0\t-\t-\t0\t-\t3F00"],
-        ["393837363534\t5\t5", user + "\t1\t0", "0\t1\t0\t-\t-\t0\t-\t3F00"]])
+        ["3837363534333231\t5\t5", user + "\t1\t1", transport, "0\t0\t0\t-\t00112233\t0\t-\t3F00"],
+        ["3837363534333231\t5\t5", user + "\t1\t1", transport, "0\t0\t0\t-\t" + RANDOM + "\t0\t-\t3F00"],
+        ["3837363534333231\t5\t5", user + "\t1\t1", transport, "0\t1\t0\t-\t-\t0\t-\t3F00"],
+        ["3837363534333231\t5\t5", user + "\t1\t0", transport, "0\t1\t0\t-\t-\t0\t-\t3F00"],
+        ["393837363534\t5\t5", user + "\t1\t0", transport, "0\t1\t0\t-\t-\t0\t-\t3F00"]])
     session = Session(mode=1)
     seen = []
     for sent in ("00A40000023F00", "0084000004", "00C0000001", "00C0000104", "00C0000002", "00C0000000", "0084000008", "00200001"):
         session.send(sent)
-        seen.append(texts.to_text(session.program.card, session.program.area).decode().splitlines()[3])
+        seen.append(texts.to_text(session.program.card, session.program.area).decode().splitlines()[4])
     check("as the data wait and are fetched", seen, [
         "0\t0\t0\t-\t%s\t1\t%s\t3F00" % fields for fields in (
             ("-", "-"), ("00112233", "00112233"), ("00112233", "112233"), ("00112233", "112233"), ("00112233", "33"),
@@ -958,7 +996,7 @@ def test_text_example():
 
 def test_text_fields():
     """One field of the example changed. Those in the first list are still the lines of a sound card."""
-    key, admin, user, session, binary, fixed, cyclic, variable = 1, 2, 3, 4, 5, 8, 10, 12
+    key, admin, user, transport, session, binary, fixed, cyclic, variable = 1, 2, 3, 4, 5, 6, 9, 11, 13
     for number, field, good, bad in (
             (key, 0, ("FF" * 16, "00" * 16),
              ("FF" * 15, "FF" * 17, "FF" * 15 + "F", "FF" * 15 + "FFF", "ff" * 16, "FF" * 15 + "Fg", "", "-", " " + "FF" * 16,
@@ -978,6 +1016,14 @@ def test_text_fields():
             (user, 0, ("303132333435",), ("3132333435", "31" * 17, "", "39" * 5 + "40")),
             (user, 1, ("2", "3", "128"), ("1", "0", "129", "258")),
             (user, 2, ("0", "1", "2", "3"), ("4", "258", "02")),
+            (transport, 0, ("FF" * 16, "00" * 16, "313233343536" + "00" * 10, KEY),
+             ("FF" * 15, "FF" * 17, "FF" * 15 + "F", "FF" * 15 + "FFF", "ff" * 16, "FF" * 15 + "Fg", "", "-", " " + "FF" * 16,
+              "313233343536", "0x" + "FF" * 15)),
+            # It opens no right, so that its tries may be any up to its limit.
+            (transport, 1, ("10", "11", "127", "128"),
+             ("9", "1", "0", "129", "255", "256", "266", "65546", "010", "+10", "-10", " 10", "10 ", "10\r", "", "-", "A", "0xA")),
+            (transport, 2, ("0", "1", "9", "10"),
+             ("11", "128", "256", "266", "65546", "00", "01", "010", "+1", "-0", "-1", " 1", "1 ", "1\r", "", "-")),
             (session, 0, ("0", "1"), ("2", "", "-", "00", "01", "+1", " 1", "1 ", "true", "FF")),
             # The admin PIN has all its tries left, and the user PIN has not.
             (session, 1, ("0", "1"), ("2", "", "-", "00", "01")),
@@ -997,10 +1043,12 @@ def test_text_fields():
             (binary, 0, ("0101", "0105", "011E", "FF41", "0001", "3F01"),
              ("0102", "0202", "0222", "0144", "0100", "0120", "011F", "013F", "0000", "3F00", "101", "00101", "01", "", "-", "01e1",
               "01G1")),
-            (binary, 1, ("2800210001", "2800210F0F", "280021C1C1", "2800210000", "2800214080", "280021C2C3", "2800210382", "2C00210001"),
+            (binary, 1, ("2800210001", "2800210F0F", "280021C1C1", "2800210000", "2800214080", "280021C2C3", "2800210382", "2C00210001",
+                         "2800210400", "2800210004", "28002144C4", "280021C686", "2800210547", "28002107C7", "2800214587", "2800214685"),
              ("2800200001", "2800220001", "2800000001", "2810210001", "2821000001", "2700210001", "2900210001", "2B00210001",
               "2D00210001", "2F00210001", "0000210001", "2800210201", "2800210002", "280021000E", "2800211001", "28002100FE",
-              "2800218F00", "2800211200", "28002100C6", "2800210A0A", "28002100", "280021000100", "28 0021 00 01", "", "-", "2800210c01", "2800210C01")),
+              "2800210600", "2800210006", "2800210C00", "280021000C", "2800211400", "2800210024", "28002100C8", "28002100CE",
+              "2800218F00", "2800211200", "28002100CA", "2800210A0A", "28002100", "280021000100", "28 0021 00 01", "", "-", "2800210c01", "2800210C01")),
             (binary, 2, ("0",), ("1", "33", "00", "", "-", "+0", "256")),
             (binary, 3, ("0",), ("1", "00", "", "-", "256")),
             (binary, 4, ("3F00",), ("", "-", "0000", "3F01", "0101", "0102", "FFFF", "3f00", "3F0", "3F000", " 3F00", "3F00 ", "3F00\r",
@@ -1025,12 +1073,12 @@ def test_text_fields():
             check("bad: line %d, field %d: %s" % (number, field, value[:40]), accepts(with_field(number, field, value)), False)
 
     for number, good, bad in (
-            (6, ("FF" * 32,), ("00" * 31, "00" * 33, "0" * 63, "0" * 65, "", "-", "aa" * 32, " " + "00" * 32, "00" * 32 + " ")),
-            (7, ("00", "FF"), ("", "0", "000", "A200", "a2", "A2 ", " A2", "-", "A2\r", "A2\t", "\tA2")),
-            (9, ("FF" * 6,), ("FF" * 5, "FF" * 7, "ff" * 6)),
+            (7, ("FF" * 32,), ("00" * 31, "00" * 33, "0" * 63, "0" * 65, "", "-", "aa" * 32, " " + "00" * 32, "00" * 32 + " ")),
+            (8, ("00", "FF"), ("", "0", "000", "A200", "a2", "A2 ", " A2", "-", "A2\r", "A2\t", "\tA2")),
+            (10, ("FF" * 6,), ("FF" * 5, "FF" * 7, "ff" * 6)),
             # The place that holds no record is free.
-            (11, ("C1C2D1D2FFFF",), ("C1C2D1D2",)),
-            (13, ("01AA02BBCCFFFFFF", "01000200000000B3", "04AA02BBCC000000", "0200010100000000"),
+            (12, ("C1C2D1D2FFFF",), ("C1C2D1D2",)),
+            (14, ("01AA02BBCCFFFFFF", "01000200000000B3", "04AA02BBCC000000", "0200010100000000"),
              ("01AA03BBCC000000", "02AA02BBCC000000", "00AA02BBCC000000", "05AA02BBCC000000", "03AA02BBCC000000",
               "01AA01BBCC000000", "B4AA02BBCC000000", "FFAA02BBCC000000", "01AA02BBCC0000", "01AA02BBCC00000000",
               "01aa02BBCC000000"))):
@@ -1041,9 +1089,9 @@ def test_text_fields():
 
     # Two fields together.
     for name, text, expected in (
-            ("an empty cyclic file", with_lines(10, "0103\t2E03020000\t0\t0\t3F00"), True),
-            ("an empty cyclic file with a newest place", with_lines(10, "0103\t2E03020000\t0\t1\t3F00"), False),
-            ("a cyclic file that is not full, its newest at the last place", with_lines(10, "0103\t2E03020000\t1\t2\t3F00"), True),
+            ("an empty cyclic file", with_lines(11, "0103\t2E03020000\t0\t0\t3F00"), True),
+            ("an empty cyclic file with a newest place", with_lines(11, "0103\t2E03020000\t0\t1\t3F00"), False),
+            ("a cyclic file that is not full, its newest at the last place", with_lines(11, "0103\t2E03020000\t1\t2\t3F00"), True),
             ("nothing waits in mode 1", with_waiting("1", "-"), True),
             ("a byte waits", with_waiting("1", "00"), True),
             ("a byte waits, not in lower case", with_waiting("1", "aa"), False),
@@ -1061,30 +1109,41 @@ def test_text_fields():
             ("a byte waits in mode 2", with_waiting("2", "A5"), False),
             ("a byte waits in mode 01", with_waiting("01", "A5"), False),
             ("mode and waiting bytes swapped", with_waiting("-", "1"), False),
-            ("no waiting bytes", with_lines(4, "1\t0\t0\t0104\t0011223344556677\t1\t3F00"), False),
-            ("no mode", with_lines(4, "1\t0\t0\t0104\t0011223344556677\t-\t3F00"), False),
+            ("no waiting bytes", with_lines(5, "1\t0\t0\t0104\t0011223344556677\t1\t3F00"), False),
+            ("no mode", with_lines(5, "1\t0\t0\t0104\t0011223344556677\t-\t3F00"), False),
             ("a field behind the waiting bytes", with_waiting("1", "A5\t-"), False),
             ("a limit of 1", with_lines(2, "3837363534333231\t1\t1"), True),
             ("a limit of 1 and no tries", with_lines(2, "3837363534333231\t1\t0"), True),
             ("a limit of 128", with_lines(2, "3837363534333231\t128\t128"), True),
             ("a limit of 129", with_lines(2, "3837363534333231\t129\t129"), False),
             ("a limit of 0", with_lines(2, "3837363534333231\t0\t0"), False),
+            ("no tries of the transport key", with_field(4, 2, "0"), True),
+            ("a limit of 1 for it", with_lines(4, TRANSPORT_KEY + "\t1\t1"), True),
+            ("a limit of 1 for it and no tries", with_lines(4, TRANSPORT_KEY + "\t1\t0"), True),
+            ("a limit of 129 for it", with_lines(4, TRANSPORT_KEY + "\t129\t129"), False),
+            ("a limit of 0 for it", with_lines(4, TRANSPORT_KEY + "\t0\t0"), False),
+            ("no transport key", with_lines(4), False), ("two of them", with_lines(4, *[TRANSPORT_KEY + "\t10\t10"] * 2), False),
+            ("the transport key first", text_of_lines([LINED.splitlines()[3]] + LINED.splitlines()[:3] + LINED.splitlines()[4:]), False),
+            ("a right for it", with_lines(5, "1\t0\t0\t0\t0104\t0011223344556677\t0\t-\t3F00"), False),
             ("no device right, some tries gone", with_field(1, 2, "0").replace("\n1\t0", "\n0\t0"), True),
             ("a user right with all tries", with_field(3, 2, "3").replace("\n1\t0\t0", "\n1\t0\t1"), True),
             ("all rights", with_field(3, 2, "3").replace("\n1\t0\t0", "\n1\t1\t1"), True),
             ("the current file's FID and its file's in lower case", LINED.replace("0104", "01e4"), False),
             ("the current file's FID and its file's in upper case", LINED.replace("0104", "01E4"), True),
-            ("a binary file of 32", with_lines(5, "0101\t2800200001\t0\t0\t3F00").replace("A2\n", ""), True),
-            ("a binary file of 64", with_lines(5, "0101\t2800400001\t0\t0\t3F00").replace("A2\n", "A2" * 32 + "\n"), True),
-            ("a binary file of 64 with an empty line", with_lines(5, "0101\t2800400001\t0\t0\t3F00").replace("A2\n", "A2" * 32 + "\n\n"),
+            ("a binary file of 32", with_lines(6, "0101\t2800200001\t0\t0\t3F00").replace("A2\n", ""), True),
+            ("a binary file of 64", with_lines(6, "0101\t2800400001\t0\t0\t3F00").replace("A2\n", "A2" * 32 + "\n"), True),
+            ("a binary file of 64 with an empty line", with_lines(6, "0101\t2800400001\t0\t0\t3F00").replace("A2\n", "A2" * 32 + "\n\n"),
              False),
-            ("all of a 2C file used", with_lines(12, "0104\t2C00080000\t8\t0\t3F00").replace("CC000000\n", "CC020000\n"), True),
-            ("more used than there is", with_lines(12, "0104\t2C00080000\t9\t0\t3F00").replace("CC000000\n", "CC030000\n"), False)):
+            ("all of a 2C file used", with_lines(13, "0104\t2C00080000\t8\t0\t3F00").replace("CC000000\n", "CC020000\n"), True),
+            ("more used than there is", with_lines(13, "0104\t2C00080000\t9\t0\t3F00").replace("CC000000\n", "CC030000\n"), False)):
         check(name, accepts(text), expected)
 
     read, _ = texts.from_text(with_lines(2, "39" * 16 + "\t7\t6").encode())
     check("the fields go where they belong", (read.admin.value, read.admin.limit, read.admin.tries, read.admin.held),
           (b"9" * 16, 7, 6, False))
+    read, _ = texts.from_text(with_lines(4, "5A" * 16 + "\t7\t6").encode())
+    check("those of the transport key too", (read.transport.value, read.transport.limit, read.transport.tries, read.transport.held),
+          (b"\x5A" * 16, 7, 6, False))
 
 
 # Two firms in one box, its lines worked out by hand from the commands of firms_session.
@@ -1092,6 +1151,7 @@ FIRMS = """\
 000102030405060708090A0B0C0D0E0F	128	128
 3837363534333231	5	5
 313233343536	3	3
+101112131415161718191A1B1C1D1E1F	10	10
 1	0	0	5102	-	0	-	5101
 5101	01
 5102	0F
@@ -1125,7 +1185,7 @@ def test_text_folders():
                            ("00B0810000", "A0 9000"), ("00A40000025102", "9000"), ("80E00101 05 2800010000", "6982")):
         check("a card of two firms that was read, %s" % sent, session.send(sent), expected)
     session.reset()
-    check("reset", texts.to_text(session.program.card, session.program.area).decode().splitlines()[3], "0\t0\t0\t-\t-\t0\t-\t3F00")
+    check("reset", texts.to_text(session.program.card, session.program.area).decode().splitlines()[4], "0\t0\t0\t-\t-\t0\t-\t3F00")
 
     lines = FIRMS.splitlines()
 
@@ -1140,58 +1200,58 @@ def test_text_folders():
 
     for number, place, good, bad in (
             # The current file is 5102 in 5101; 0101 lies there too, and in the root.
-            (4, 3, ("5102", "0101", "-"), ("5101", "0121", "3F00", "0102", "0000")),
-            (4, 7, ("5101",), ("3F00", "5102", "0121", "5103", "0101", "-", "", "0000", "1", "5101 ", "51010", "510")),
-            (5, 0, (), ("5101\t", "5102", "0121", "0101", "5100", "511F", "3F00", "5103", "-", "", "510", "05101", "51 1")),
-            (5, 1, ("00", "01", "0F", "40", "41", "80", "81", "C0", "C1", "03", "42", "43", "82", "83", "C2", "C3"),
+            (5, 3, ("5102", "0101", "-"), ("5101", "0121", "3F00", "0102", "0000")),
+            (5, 7, ("5101",), ("3F00", "5102", "0121", "5103", "0101", "-", "", "0000", "1", "5101 ", "51010", "510")),
+            (6, 0, (), ("5101\t", "5102", "0121", "0101", "5100", "511F", "3F00", "5103", "-", "", "510", "05101", "51 1")),
+            (6, 1, ("00", "01", "0F", "40", "41", "80", "81", "C0", "C1", "03", "42", "43", "82", "83", "C2", "C3"),
              ("02", "04", "05", "08", "0E", "10", "20", "4F", "8F", "FF", "0", "1", "001", "0100", "", "-", "0f", "c1", " 01", "01 ", "01\t")),
             # No file lies in 5102: another FID will do, but for those of directories and root files.
-            (6, 0, ("5103", "5122", "511E", "5201", "0102", "FFFE", "0141"),
+            (7, 0, ("5103", "5122", "511E", "5201", "0102", "FFFE", "0141"),
              ("5101", "0121", "0101", "5100", "511F", "3F00", "3F1F", "0000", "513F", "510g", "51a1", "")),
-            (7, 0, ("0122", "013E", "0161"), ("0101", "5101", "5102", "0120", "011F")),
+            (8, 0, ("0122", "013E", "0161"), ("0101", "5101", "5102", "0120", "011F")),
             # In the root the file may have any free FID but a directory's, whatever the low bits are.
-            (8, 0, ("0101", "0141", "0102", "5103", "5121"), ("5101", "5102", "0121", "0100", "011F")),
-            (8, 4, ("3F00", "5102", "0121"), ("5101", "5103", "0101", "-", "", "0000", "3F01", "3f00", "3F0", "3F00 ", "3F00\t3F00")),
+            (9, 0, ("0101", "0141", "0102", "5103", "5121"), ("5101", "5102", "0121", "0100", "011F")),
+            (9, 4, ("3F00", "5102", "0121"), ("5101", "5103", "0101", "-", "", "0000", "3F01", "3f00", "3F0", "3F00 ", "3F00\t3F00")),
             # In a directory it may have a directory's, also of its own. SFI 2 is used.
-            (10, 0, ("0101", "5101", "0121", "FFFE", "3F01"), ("5102", "0102", "5100", "511F", "3F00")),
-            (10, 4, ("5101", "5102", "0121"), ("3F00", "5103", "0000", "-", "", "0101")),
-            (12, 4, ("5101",), ("3F00", "5102", "0121", "5103"))):
+            (11, 0, ("0101", "5101", "0121", "FFFE", "3F01"), ("5102", "0102", "5100", "511F", "3F00")),
+            (11, 4, ("5101", "5102", "0121"), ("3F00", "5103", "0000", "-", "", "0101")),
+            (13, 4, ("5101",), ("3F00", "5102", "0121", "5103"))):
         for value in good:
             check("good: firms, line %d, field %d: %s" % (number, place, value), accepts(field(number, place, [value])), True)
         for value in bad:
             check("bad: firms, line %d, field %d: %s" % (number, place, value), accepts(field(number, place, [value])), False)
-    free = field(4, 3, ["-"])
+    free = field(5, 3, ["-"])
     for value in ("3F00", "5101", "5102", "0121"):
         check("no current file in %s" % value, accepts(free.replace("-\t5101\n", "-\t%s\n" % value, 1)), True)
     for value in ("5103", "0101", "0000", "-"):
         check("no such directory: %s" % value, accepts(free.replace("-\t5101\n", "-\t%s\n" % value, 1)), False)
     for name, text, expected in (
-            ("the session without a directory", field(4, 7, []), False), ("a file without one", field(8, 4, []), False),
-            ("a directory without a right", field(5, 1, []), False), ("a directory without a FID", field(5, 0, []), False),
-            ("a directory less, with files in it", changed(5), False), ("a directory less, without", changed(6), True),
-            ("a directory twice", changed(6, lines[5], lines[5]), False),
-            ("a directory twice with another right", changed(6, lines[5], "5102\t00"), False),
-            ("directories in another order", changed(5, lines[5], lines[4]).replace("\n5101\t01\n5102\t0F\n", "\n5101\t01\n", 1), True),
-            ("four directories", changed(7, lines[6], "5104\tC3"), True),
-            ("five directories", changed(7, lines[6], "5104\tC3", "5105\t00"), False),
-            ("a directory behind a file", changed(10, "5104\tC3", lines[9]), False),
+            ("the session without a directory", field(5, 7, []), False), ("a file without one", field(9, 4, []), False),
+            ("a directory without a right", field(6, 1, []), False), ("a directory without a FID", field(6, 0, []), False),
+            ("a directory less, with files in it", changed(6), False), ("a directory less, without", changed(7), True),
+            ("a directory twice", changed(7, lines[6], lines[6]), False),
+            ("a directory twice with another right", changed(7, lines[6], "5102\t00"), False),
+            ("directories in another order", changed(6, lines[6], lines[5]).replace("\n5101\t01\n5102\t0F\n", "\n5101\t01\n", 1), True),
+            ("four directories", changed(8, lines[7], "5104\tC3"), True),
+            ("five directories", changed(8, lines[7], "5104\tC3", "5105\t00"), False),
+            ("a directory behind a file", changed(11, "5104\tC3", lines[10]), False),
             ("a directory at the end", FIRMS + "5104\tC3\n", False),
-            ("a directory before the session", changed(4, "5104\tC3", lines[3]), False),
+            ("a directory before the session", changed(5, "5104\tC3", lines[4]), False),
             ("a directory at the start", "5104\tC3\n" + FIRMS, False),
-            ("a directory within contents", changed(9, "5104\tC3", lines[8]), False),
-            ("the root as a directory", changed(5, "3F00\t00", lines[4]), False),
-            ("a directory's line as a file's", changed(6, "5102\t3800000F00\t0\t0\t3F00"), False),
-            ("CREATE's bytes in its line", changed(6, "5102\t3800000F00"), False), ("a field more", changed(6, "5102\t0F\t3F00"), False),
-            ("a blank for the tab", changed(6, "5102 0F"), False), ("an empty line before them", changed(5, "", lines[4]), False),
-            ("an empty line behind them", changed(8, "", lines[7]), False),
-            ("a file of type 38", changed(8, "0101\t3800010000\t0\t0\t3F00"), False),
+            ("a directory within contents", changed(10, "5104\tC3", lines[9]), False),
+            ("the root as a directory", changed(6, "3F00\t00", lines[5]), False),
+            ("a directory's line as a file's", changed(7, "5102\t3800000F00\t0\t0\t3F00"), False),
+            ("CREATE's bytes in its line", changed(7, "5102\t3800000F00"), False), ("a field more", changed(7, "5102\t0F\t3F00"), False),
+            ("a blank for the tab", changed(7, "5102 0F"), False), ("an empty line before them", changed(6, "", lines[5]), False),
+            ("an empty line behind them", changed(9, "", lines[8]), False),
+            ("a file of type 38", changed(9, "0101\t3800010000\t0\t0\t3F00"), False),
             ("all in the root", FIRMS.replace("\t5101\n", "\t3F00\n"), False),
-            ("no directories' lines", text_of_lines(lines[:4] + lines[7:]), False)):
+            ("no directories' lines", text_of_lines(lines[:5] + lines[8:]), False)):
         check("firms: " + name, accepts(text), expected)
-    check("firms: without a line", [number for number in range(1, 14) if accepts(changed(number))], [6, 7])
-    check("firms: a line twice", [number for number in range(1, 14) if accepts(changed(number, *[lines[number - 1]] * 2))], [])
+    check("firms: without a line", [number for number in range(1, 15) if accepts(changed(number))], [7, 8])
+    check("firms: a line twice", [number for number in range(1, 15) if accepts(changed(number, *[lines[number - 1]] * 2))], [])
     free = free.replace("-\t5101\n", "-\t3F00\n", 1)
-    ends = [len(text_of_lines(free.splitlines()[:count])) for count in (4, 5, 6, 7, 9, 11, 13)]
+    ends = [len(text_of_lines(free.splitlines()[:count])) for count in (5, 6, 7, 8, 10, 12, 14)]
     check("firms: cut off", [length for length in range(len(free) + 1) if accepts(free[:length])], ends)
 
     # The old form: no directory and no field for one. What has a directory has no such lines.
@@ -1220,31 +1280,32 @@ def test_text_lines():
     """Lines that are missing, added or in another order, and what stands between the fields and behind the last newline."""
     lines = LINED.splitlines()
     check("no lines", accepts(""), False)
-    check("without a line", [number for number in range(1, 14) if accepts(with_lines(number))], [])
-    check("with a line twice", [number for number in range(1, 14) if accepts(with_lines(number, *[lines[number - 1]] * 2))], [])
+    check("without a line", [number for number in range(1, 15) if accepts(with_lines(number))], [])
+    check("with a line twice", [number for number in range(1, 15) if accepts(with_lines(number, *[lines[number - 1]] * 2))], [])
     check("with an empty line before one",
-          [number for number in range(1, 14) if accepts(with_lines(number, "", lines[number - 1]))], [])
-    check("with one line of the contents less", accepts(LINED.replace(lines[5] + "\n", "")), False)
+          [number for number in range(1, 15) if accepts(with_lines(number, "", lines[number - 1]))], [])
+    check("with one line of the contents less", accepts(LINED.replace(lines[6] + "\n", "")), False)
 
     def swapped(first, second):
         order = list(lines)
         order[first - 1], order[second - 1] = order[second - 1], order[first - 1]
         return text_of_lines(order)
 
-    # The PINs may change places, for neither right is held. So may the lines of the two files of 6 bytes, and their contents.
-    check("with two lines swapped", [(first, second) for first in range(1, 14) for second in range(first + 1, 14)
-                                     if accepts(swapped(first, second))], [(2, 3), (8, 10), (9, 11)])
+    # The PINs may change places, for neither right is held, and the keys too, for each has all its tries. So may the lines of the two
+    # files of 6 bytes, and their contents.
+    check("with two lines swapped", [(first, second) for first in range(1, 15) for second in range(first + 1, 15)
+                                     if accepts(swapped(first, second))], [(1, 4), (2, 3), (9, 11), (10, 12)])
     first, second, third, fourth = [lines[start:end] for start, end in zip(FILE_ENDS, FILE_ENDS[1:])]
     for name, files, expected in (
             ("files in another order", (fourth, third, second, first), True), ("a file less", (second, third, fourth), True),
             ("the current file missing", (first, second, third), False),
             ("a file twice", (first, second, second, third, fourth), False),
             ("its line and contents apart", (first[:1], second, first[1:], third, fourth), False)):
-        check(name, accepts(text_of_lines(lines[:4] + sum(files, []))), expected)
+        check(name, accepts(text_of_lines(lines[:5] + sum(files, []))), expected)
 
     # Cut off anywhere: only whole files are a card, and only where the current one is among them.
     check("cut off", [length for length in range(len(LINED)) if accepts(LINED[:length])], [])
-    free = with_field(4, 3, "-")
+    free = with_field(5, 3, "-")
     ends = [len(text_of_lines(free.splitlines()[:count])) for count in FILE_ENDS]
     check("cut off, no file current", [length for length in range(len(free) + 1) if accepts(free[:length])], ends)
     for name, text in (
@@ -1261,7 +1322,7 @@ def test_text_lines():
 
 
 def test_text_sizes():
-    start = text_of_lines(LINED.splitlines()[:3]) + "0\t0\t0\t-\t-\t0\t-\t3F00\n"
+    start = text_of_lines(LINED.splitlines()[:4]) + "0\t0\t0\t-\t-\t0\t-\t3F00\n"
 
     def files(*sizes):
         """Binary files of so many bytes, their SFIs from 1 on."""
@@ -1301,18 +1362,18 @@ def test_text_sizes():
         text = start + text_of_lines(["0001\t%s\t%d\t0\t3F00" % (created, held)] + lines)
         check("a file made by %s, %d held or used" % (created, held), accepts(text), expected)
 
-    # The longest text. Credentials with sixteen bytes and three digits twice: 3 x 41. The session: 46 with the mode, 513 with
+    # The longest text. Credentials with sixteen bytes and three digits twice: 4 x 41. The session: 46 with the mode, 513 with
     # 256 waiting bytes, and 5 with the directory. Four directories of 8 bytes a line: 32. Sixteen cyclic files with 29 bytes a
     # line, as held and newest have three digits: 464. All 4,096 bytes: 8,192 digits, in 143 lines where the files end 2 bytes
-    # behind a whole line: 15 x 258 + 226 = 4,096, and 15 x 9 + 8 = 143. Together 9,518.
-    longest = text_of_lines(["FF" * 16 + "\t128\t128"] + ["39" * 16 + "\t128\t128"] * 2
+    # behind a whole line: 15 x 258 + 226 = 4,096, and 15 x 9 + 8 = 143. Together 9,559.
+    longest = text_of_lines(["FF" * 16 + "\t128\t128"] + ["39" * 16 + "\t128\t128"] * 2 + ["FE" * 16 + "\t128\t128"]
                             + ["1\t1\t1\tFF01\t" + "FF" * 16 + "\t1\t" + "FF" * 256 + "\tEE01"]
                             + ["EE%02X\tC1" % number for number in range(1, 5)])
     for number in range(1, 17):
         count = 129 if number < 16 else 113
         longest += text_of_lines(["FF%02X\t2E%02X02C1C1\t%d\t%d\tEE%02X" % (number, count, count, count - 1, 1 + (number - 1) // 4)]
                                  + ["FF" * 32] * (count * 2 // 32) + ["FFFF"])
-    check("the longest text", (len(longest), accepts(longest)), (9518, True))
+    check("the longest text", (len(longest), accepts(longest)), (9559, True))
 
 
 def test_text_calls():
@@ -1356,6 +1417,7 @@ SHELVED = """\
 000102030405060708090A0B0C0D0E0F	128	127
 3837363534333231	5	0
 313233343536	3	3
+101112131415161718191A1B1C1D1E1F	10	0
 0	0	1	A102	00112233	1	3F00FF
 A101	2E02024001	1	0
 00010000
@@ -1369,6 +1431,7 @@ CONVERTED = """\
 000102030405060708090A0B0C0D0E0F	128	127
 3837363534333231	5	0
 313233343536	3	3
+101112131415161718191A1B1C1D1E1F	10	0
 0	0	1	A102	00112233	1	3F00FF	3F00
 A101	2E02024001	1	0	3F00
 00010000
@@ -1390,20 +1453,20 @@ def test_text_conversions():
 
     def outcomes(convert, text):
         """With no room, room for a byte, some, and enough for every card: a text that is refused is so whatever the room."""
-        return [converted(convert, text, room) for room in (0, 1, len(text) - 7, 9518)]
+        return [converted(convert, text, room) for room in (0, 1, len(text) - 7, 9559)]
 
-    new_card = "".join(CONVERTED.splitlines(True)[:3]) + "0\t0\t1\t-\t-\t0\t-\t3F00\n"
+    new_card = "".join(CONVERTED.splitlines(True)[:4]) + "0\t0\t1\t-\t-\t0\t-\t3F00\n"
     for name, old, new in (
             ("shelved", SHELVED, CONVERTED), ("the example", LINED.replace("\t3F00\n", "\n"), LINED),
             ("no file", new_card.replace("\t3F00", ""), new_card)):
         for convert, text, expected in ((texts.to_new, old, new), (texts.to_old, new, old)):
             size = len(expected)
-            for room in (size, size + 1, 9518, 9519):
+            for room in (size, size + 1, 9559, 9560):
                 check("%s: converted" % name, converted(convert, text, room), (0, expected))
             for room in (0, 1, 2, size // 2, size - 1):
                 check("%s: a buffer that is too short" % name, converted(convert, text, room), (10, ""))
-        check("%s: back and forth" % name, converted(texts.to_old, converted(texts.to_new, old, 9518)[1], 9518), (0, old))
-        check("%s: forth and back" % name, converted(texts.to_new, converted(texts.to_old, new, 9518)[1], 9518), (0, new))
+        check("%s: back and forth" % name, converted(texts.to_old, converted(texts.to_new, old, 9559)[1], 9559), (0, old))
+        check("%s: forth and back" % name, converted(texts.to_new, converted(texts.to_old, new, 9559)[1], 9559), (0, new))
         read, contents = texts.from_text(new.encode())
         was, contents_before = texts.from_text(old.encode(), texts.OLD)
         check("%s: the card of the new text" % name, (snapshot(read), contents), (snapshot(was), contents_before))
@@ -1415,51 +1478,57 @@ def test_text_conversions():
         lines[number - 1:number] = new
         return text_of_lines(lines)
 
-    session, file = SHELVED.splitlines()[3], SHELVED.splitlines()[4]
+    session, file = SHELVED.splitlines()[4], SHELVED.splitlines()[5]
     directory = "5101\t01"
     for name, text in (
             ("nothing", ""), ("a newline", "\n"), ("the new form", CONVERTED), ("firms", FIRMS), ("no last newline", SHELVED[:-1]),
             ("a newline more", SHELVED + "\n"), ("twice", SHELVED * 2), ("CR LF", SHELVED.replace("\n", "\r\n")),
-            ("the session's line with the root", with_line(SHELVED, 4, [session + "\t3F00"])),
-            ("the session's line with no directory", with_line(SHELVED, 4, [session + "\t-"])),
-            ("the session's line with an empty field", with_line(SHELVED, 4, [session + "\t"])),
-            ("the session's line with a directory", with_line(SHELVED, 4, [session + "\t5101"])),
-            ("the session's line with a directory that is there", with_line(SHELVED, 4, [session + "\t5101", directory])),
-            ("a file's line with the root", with_line(SHELVED, 5, [file + "\t3F00"])),
-            ("a file's line with a directory", with_line(SHELVED, 5, [file + "\t5101"])),
-            ("files' lines with the root, and not the session's", with_line(CONVERTED, 4, [session])),
-            ("a directory's line", with_line(SHELVED, 4, [session, directory])),
+            ("the session's line with the root", with_line(SHELVED, 5, [session + "\t3F00"])),
+            ("the session's line with no directory", with_line(SHELVED, 5, [session + "\t-"])),
+            ("the session's line with an empty field", with_line(SHELVED, 5, [session + "\t"])),
+            ("the session's line with a directory", with_line(SHELVED, 5, [session + "\t5101"])),
+            ("the session's line with a directory that is there", with_line(SHELVED, 5, [session + "\t5101", directory])),
+            ("a file's line with the root", with_line(SHELVED, 6, [file + "\t3F00"])),
+            ("a file's line with a directory", with_line(SHELVED, 6, [file + "\t5101"])),
+            ("files' lines with the root, and not the session's", with_line(CONVERTED, 5, [session])),
+            ("a directory's line", with_line(SHELVED, 5, [session, directory])),
             ("a directory's line at the end", SHELVED + directory + "\n"),
-            ("the new form with a directory's line", with_line(CONVERTED, 4, [session + "\t3F00", directory])),
+            ("the new form with a directory's line", with_line(CONVERTED, 5, [session + "\t3F00", directory])),
             ("a limit of 129", SHELVED.replace("128\t127", "129\t127")),
             ("a right with tries gone", with_line(SHELVED, 3, ["313233343536\t3\t2"])),
             ("a current file that is not there", SHELVED.replace("A102\t00112233", "A104\t00112233")),
-            ("an SFI twice", SHELVED.replace("A103", "B102")), ("before R-6", with_line(SHELVED, 4, ["0\t0\t1\tA102\t00112233"]))):
+            ("an SFI twice", SHELVED.replace("A103", "B102")), ("before R-6", with_line(SHELVED, 5, ["0\t0\t1\tA102\t00112233"])),
+            ("before R-9", with_line(SHELVED, 4, [])), ("five credentials", with_line(SHELVED, 4, SHELVED.splitlines()[3:4] * 2)),
+            ("a transport key of 15 bytes", SHELVED.replace("101112", "1112")), ("more tries than its limit", SHELVED.replace("\t10\t0", "\t10\t11"))):
         check("to new, %s" % name, outcomes(texts.to_new, text), [(11, "")] * 4)
     for name, text in (
             ("nothing", ""), ("a newline", "\n"), ("the old form", SHELVED), ("no last newline", CONVERTED[:-1]),
             ("a newline more", CONVERTED + "\n"),
-            ("the session's line without a directory", with_line(CONVERTED, 4, [session])),
-            ("a file's line without a directory", with_line(CONVERTED, 5, [file])),
-            ("a directory on the session's line that is not there", with_line(CONVERTED, 4, [session + "\t5101"])),
-            ("a directory on a file's line that is not there", with_line(CONVERTED, 5, [file + "\t5101"])),
+            ("the session's line without a directory", with_line(CONVERTED, 5, [session])),
+            ("a file's line without a directory", with_line(CONVERTED, 6, [file])),
+            ("a directory on the session's line that is not there", with_line(CONVERTED, 5, [session + "\t5101"])),
+            ("a directory on a file's line that is not there", with_line(CONVERTED, 6, [file + "\t5101"])),
             ("a limit of 129", CONVERTED.replace("128\t127", "129\t127")), ("an SFI twice", CONVERTED.replace("A103", "B102")),
+            ("before R-9", with_line(CONVERTED, 4, [])), ("five credentials", with_line(CONVERTED, 4, CONVERTED.splitlines()[3:4] * 2)),
+            ("a transport key of 15 bytes", CONVERTED.replace("101112", "1112")),
+            ("more tries than its limit", CONVERTED.replace("\t10\t0", "\t10\t11")),
             # 11 comes before 13.
+            ("firms before R-9", with_line(FIRMS, 4, [])), ("firms, a creation right with bit 3", FIRMS.replace("5101\t01", "5101\t05")),
             ("firms, and a limit of 129", FIRMS.replace("\t128\t", "\t129\t", 1)), ("firms, and no last newline", FIRMS[:-1]),
-            ("a directory with a bad right", with_line(CONVERTED, 4, [session + "\t3F00", "5101\t02"])),
-            ("a directory with a root file's FID", with_line(CONVERTED, 4, [session + "\t3F00", "A101\t01"])),
+            ("a directory with a bad right", with_line(CONVERTED, 5, [session + "\t3F00", "5101\t02"])),
+            ("a directory with a root file's FID", with_line(CONVERTED, 5, [session + "\t3F00", "A101\t01"])),
             ("a directory behind a file", CONVERTED + directory + "\n"),
-            ("five directories", with_line(CONVERTED, 4, [session + "\t3F00"] + ["510%d\t01" % number for number in range(1, 6)])),
-            ("the old form with a directory's line", with_line(SHELVED, 4, [session, directory]))):
+            ("five directories", with_line(CONVERTED, 5, [session + "\t3F00"] + ["510%d\t01" % number for number in range(1, 6)])),
+            ("the old form with a directory's line", with_line(SHELVED, 5, [session, directory]))):
         check("to old, %s" % name, outcomes(texts.to_old, text), [(11, "")] * 4)
     # 13 comes before 10.
     none_current = session.replace("A102", "-")
     for name, text in (
-            ("firms", FIRMS), ("a directory without files", with_line(CONVERTED, 4, [session + "\t3F00", directory])),
-            ("a directory that is current, without files", with_line(CONVERTED, 4, [none_current + "\t5101", directory])),
-            ("a directory with a file", with_line(with_line(CONVERTED, 5, [file + "\t5101"]), 4, [session + "\t3F00", directory])),
-            ("four directories", with_line(CONVERTED, 4, [session + "\t3F00"] + ["510%d\t01" % number for number in range(1, 5)])),
-            ("a directory and no file", with_line(new_card, 4, ["0\t0\t1\t-\t-\t0\t-\t3F00", directory]))):
+            ("firms", FIRMS), ("a directory without files", with_line(CONVERTED, 5, [session + "\t3F00", directory])),
+            ("a directory that is current, without files", with_line(CONVERTED, 5, [none_current + "\t5101", directory])),
+            ("a directory with a file", with_line(with_line(CONVERTED, 6, [file + "\t5101"]), 5, [session + "\t3F00", directory])),
+            ("four directories", with_line(CONVERTED, 5, [session + "\t3F00"] + ["510%d\t01" % number for number in range(1, 5)])),
+            ("a directory and no file", with_line(new_card, 5, ["0\t0\t1\t-\t-\t0\t-\t3F00", directory]))):
         check("to old, %s" % name, outcomes(texts.to_old, text), [(13, "")] * 4)
 
 
@@ -1482,13 +1551,13 @@ def test_text_converted():
         convert, _ = text_cases.CONVERSIONS[form]
         seen, other = dict.fromkeys(due, 0), []
         for kind, text in text_cases.texts_to_convert(generate.Dice(3), 2000, form, []):
-            buffer, again = bytearray(9518), bytearray(len(text))
+            buffer, again = bytearray(9559), bytearray(len(text))
             outcome, count = convert(text, buffer)
             made = bytes(buffer[:count])
             seen[outcome] += 1
             if outcome == 0 and (made != lines_in_other_form(text) or back(made, again) != (0, len(text)) or again != text):
                 other.append((kind, text))
-            if outcome != 0 and (count, buffer) != (0, bytearray(9518)):
+            if outcome != 0 and (count, buffer) != (0, bytearray(9559)):
                 other.append((kind, text))
         check("converted from the %s form" % form, other[:3], [])
         check("each is met often, from the %s form" % form, [outcome for outcome in due if seen[outcome] < 100], [])
@@ -1506,12 +1575,12 @@ def test_framing():
             ("0020000206 313233343536", "6A86"), ("0020010106 313233343536", "6A86"), ("00200002", "6A86")):
         check("command %s" % sent, session.send(sent), expected)
     check("all the classes", [session.send("%02X200001" % cla) for cla in range(256)],
-          ["63C3"] + ["6E00"] * 127 + ["6D00"] + ["6E00"] * 127)
+          ["63C3"] + ["6E00"] * 3 + ["6D00"] + ["6E00"] * 123 + ["6D00"] + ["6E00"] * 127)
     session = Session(mode=1)
-    served = [(cla, ins) for cla in (0x00, 0x80) for ins in range(256)
+    served = [(cla, ins) for cla in (0x00, 0x04, 0x80) for ins in range(256)
               if session.send("%02X%02XFFFF" % (cla, ins)) != "6D00"]
     check("the list", sorted(served), sorted(cards.ROWS))
-    check("thirteen rows", len(cards.LIST), 13)
+    check("eighteen rows", len(cards.LIST), 18)
 
 
 def test_files():
@@ -1759,7 +1828,7 @@ def test_response():
     check("the next data take their place", session.send("0084000008", RANDOM[::-1]), "6108")
     check("and those before are gone", session.fetch(), RANDOM[::-1][:16] + " 9000")
     session.send("0084000010")
-    session.line("ISSUE\t%s\t3\t123456\t3\t654321\t3\t1" % KEY)
+    session.line("ISSUE\t%s\t3\t123456\t3\t654321\t3\t1\t%s\t3" % (KEY, TRANSPORT_KEY))
     check("nothing waits on a new card", session.send("00C0000000"), "6985")
 
     # Mode 0 has no GET RESPONSE, and drops the challenge at one.
@@ -1784,8 +1853,18 @@ ASKED = {
 }
 
 
+# Bit 3 asks for a code besides; 06 has nothing to choose from.
+CODED_ASKED = {
+    0x04: NOTHING_ASKED, 0x84: ("admin",), 0x44: ("user",), 0x05: ("device",), 0xC4: ("admin user",), 0x85: ("admin device",),
+    0x45: ("user device",), 0xC5: ("admin user device",),
+    0x86: ("admin",), 0x46: ("user",), 0x07: ("device",), 0xC6: ("admin", "user"), 0x87: ("admin", "device"),
+    0x47: ("user", "device"), 0xC7: ("admin", "user", "device"),
+}
+
+
 def test_rights():
-    check("good rights bytes", [byte for byte in range(256) if not cards.is_bad_rights_byte(byte)], sorted(ASKED))
+    check("good creation rights", [byte for byte in range(256) if not cards.is_bad_creation_right(byte)], sorted(ASKED))
+    check("good rights bytes", [byte for byte in range(256) if not cards.is_bad_rights_byte(byte)], sorted(list(ASKED) + list(CODED_ASKED)))
     check("rights bytes in the readings", [byte in ASKED for byte in (0x82, 0x42, 0x03, 0x02, 0x8F)], [True] * 3 + [False] * 2)
     for byte, asked in ASKED.items():
         session = device_session()
@@ -1800,7 +1879,7 @@ def test_rights():
             check("update " + shown, session.send("00DC011401BB"), "9000" if passes else "6982")
             check("read a record " + shown, session.send("00B2011400"), "BB 9000" if passes else "6982")
     session = device_session()
-    for byte in sorted(set(range(256)) - set(ASKED)):
+    for byte in sorted(set(range(256)) - set(ASKED) - set(CODED_ASKED)):
         check("bad read right %02X" % byte, session.send("80E00001 05 280001%02X00" % byte), "6A80")
         check("bad write right %02X" % byte, session.send("80E00001 05 28000100%02X" % byte), "6A80")
     session = device_session()
@@ -1869,12 +1948,472 @@ def test_credentials():
     check("GET CHALLENGE, P before case", session.send("00840001"), "6A86")
 
 
+# ---------------------------------------------------------------------------------------------------------------------
+# Codes on the bus
+# ---------------------------------------------------------------------------------------------------------------------
+
+ELEVEN = "A0A1A2A3A4A5A6A7A8A9AA"
+
+
+def test_code():
+    """The code itself. Those in this list were worked out by openssl by hand, with the padding typed."""
+    for length, message, expected in (
+            (4, "04B0810004", "D8AC3A94"), (8, "04B0810004", "4E5522FE"), (16, "04B0810004", "CACC135C"),
+            (16, "04D6810005AA", "8A400F35"), (4, "04D681000F" + ELEVEN, "6C5E0113"), (16, "04D681000F" + ELEVEN, "CFF9ED3F"),
+            (16, "04D681000E" + ELEVEN[:-2], "1F5530C2"), (16, "04D6810010" + ELEVEN + "AB", "BCE0A715"),
+            (16, "04D68100FF" + "5A" * 251, "9F0FC76C")):
+        check("the code of %s" % message[:20],
+              cards.code_of(bytes.fromhex(TRANSPORT_KEY), bytes.fromhex(RANDOM)[:length], bytes.fromhex(message)).hex().upper(), expected)
+        check("openssl as it is called here, %s" % message[:20], codes.code(TRANSPORT_KEY, RANDOM[:2 * length], message), expected)
+    whole = "".join("%02X" % (place * 7 % 256) for place in range(300))
+    for length in range(301):
+        challenge = RANDOM[:(8, 16, 32)[length % 3]]
+        check("the code of %d bytes" % length,
+              cards.code_of(bytes.fromhex(TRANSPORT_KEY), bytes.fromhex(challenge), bytes.fromhex(whole[:2 * length])).hex().upper(),
+              codes.code(TRANSPORT_KEY, challenge, whole[:2 * length]))
+    for message, expected in (("", 16), ("00" * 15, 16), ("00" * 16, 32), ("00" * 17, 32), ("00" * 31, 32), ("00" * 32, 48)):
+        check("padded to %d" % expected, cards.padded(bytes.fromhex(message)).hex(),
+              message + "80" + "00" * (expected - 1 - len(message) // 2))
+
+
+def code_session(**options):
+    """A card with a file of each type that asks for a code and nothing else, and one of each that is free.
+
+    SFI 1 binary of 256, 2 fixed records of 3, 3 cyclic records of 3, 4 a space of 200; 17 to 20 are the same and free. Each record
+    file holds a record. None is current, and the device right is held.
+    """
+    session = device_session(**options)
+    for base, right in ((0, "04"), (16, "00")):
+        for sfi, created in ((1, "280100"), (2, "2A0203"), (3, "2E0203"), (4, "2C00C8")):
+            check("made", session.send("80E000%02X 05 %s%s%s" % (base + sfi, created, right, right)), "9000")
+        for sfi in (3, 4):
+            if right == "04":
+                check("a first record", session.coded("E200%02X" % (base + sfi << 3), "C0C1C2"), "9000")
+            else:
+                check("a first record", session.send("00E200%02X03C0C1C2" % (base + sfi << 3)), "9000")
+    session.send("00A40000023F00")
+    return session
+
+
+def test_codes_served():
+    # All five, on files that ask for a code and on files that do not, with challenges of each length.
+    for challenge in (4, 8, 16):
+        session = code_session()
+        for base in (0, 16):
+            for header, data, le, expected in (
+                    ("D6%02X00" % (0x80 + base + 1), "55", "", "9000"), ("B0%02X00" % (0x80 + base + 1), "", "01", "55 9000"),
+                    ("B0%02XFF" % (0x80 + base + 1), "", "00", "00 9000"), ("B0%02X00" % (0x80 + base + 1), "", "00", "55" + "00" * 255 + " 9000"),
+                    ("D6%02X05" % (0x80 + base + 1), ELEVEN, "", "9000"), ("B0%02X05" % (0x80 + base + 1), "", "0B", ELEVEN + " 9000"),
+                    ("D6%02X05" % (0x80 + base + 1), "5A" * 251, "", "9000"), ("B0%02X05" % (0x80 + base + 1), "", "FB", "5A" * 251 + " 9000"),
+                    ("DC01%02X" % (base + 2 << 3 | 4), "B1B2B3", "", "9000"), ("B201%02X" % (base + 2 << 3 | 4), "", "03", "B1B2B3 9000"),
+                    ("E200%02X" % (base + 3 << 3), "D1D2D3", "", "9000"), ("B201%02X" % (base + 3 << 3 | 4), "", "00", "D1D2D3 9000"),
+                    ("B202%02X" % (base + 3 << 3 | 4), "", "03", "C0C1C2 9000"), ("DC02%02X" % (base + 3 << 3 | 4), "D4D5D6", "", "9000"),
+                    ("B202%02X" % (base + 3 << 3 | 4), "", "03", "D4D5D6 9000"), ("E200%02X" % (base + 4 << 3), "E1", "", "9000"),
+                    ("B202%02X" % (base + 4 << 3 | 4), "", "01", "E1 9000"), ("DC02%02X" % (base + 4 << 3 | 4), "E2", "", "9000"),
+                    ("B202%02X" % (base + 4 << 3 | 4), "", "00", "E2 9000"), ("E200%02X" % (base + 4 << 3), "E3" * 178, "", "9000"),
+                    ("B203%02X" % (base + 4 << 3 | 4), "", "B2", "E3" * 178 + " 9000")):
+                check("%s with a code, a challenge of %d" % (header, challenge), session.coded(header, data, le, challenge), expected)
+        check("no try is gone", session.tries_of_codes(), 10)
+    # A coded command makes its file current, and works on the current file.
+    session = code_session()
+    for header, data, le, expected in (
+            ("B00000", "", "01", "6A82"), ("D68100", "77", "", "9000"), ("B00000", "", "01", "77 9000"), ("D60001", "78", "", "9000"),
+            ("B00000", "", "02", "7778 9000"), ("B2011C", "", "00", "C0C1C2 9000"), ("B20104", "", "00", "C0C1C2 9000"),
+            ("DC0104", "010203", "", "9000"), ("E20000", "040506", "", "9000"), ("B20204", "", "00", "010203 9000")):
+        check("the current file, %s" % header, session.coded(header, data, le), expected)
+    # The message: one block, one that it fills, and more; the longest is 256 bytes.
+    session = code_session()
+    for length in list(range(1, 60)) + [171, 187, 203, 250, 251]:
+        data = "".join("%02X" % ((length + place) % 256) for place in range(length))
+        check("an update of %d" % length, session.coded("D68100", data), "9000")
+        check("what it wrote", session.coded("B08100", "", "%02X" % length), data + " 9000")
+    # Le is not covered: the same code is right with any Le.
+    for le, expected in (("01", "00 9000"), ("02", "0000 9000"), ("00", "00" * 16 + " 9000"), ("10", "00" * 16 + " 9000"), ("11", "6700")):
+        session = device_session()
+        session.send("80E00001 05 2800100404")
+        session.send("0084000010")
+        check("Le %s" % le, session.send("04B0810004" + "CACC135C" + le), expected)
+
+
+def test_codes_refused():
+    """Each check before the next; where a code is asked, a challenge is there. The code is right for what is sent."""
+    session = code_session()
+    for header, data, le, expected in (
+            # P, before case and Lc.
+            ("B08000", "", "01", "6A86"), ("B09F00", "", "01", "6A86"), ("B0A000", "", "", "6A86"), ("D6FF00", "AA", "00", "6A86"),
+            ("B2000C", "", "00", "6A86"), ("B20108", "", "00", "6A86"), ("B201FC", "", "00", "6A86"), ("DC0009", "AA", "", "6A86"),
+            ("E20108", "AA", "", "6A86"), ("E20009", "AA", "", "6A86"), ("E200F8", "AA", "", "6A86"),
+            # Case and Lc: reads are case 4 with Lc 04, the others case 3 with Lc 05 or more.
+            ("B08100", "", "", "6700"), ("B08100", "AA", "01", "6700"), ("B08100", "AA", "", "6700"), ("B2011C", "", "", "6700"),
+            ("B2011C", "AA", "00", "6700"), ("D68100", "", "", "6700"), ("D68100", "AA", "00", "6700"), ("D68100", "", "00", "6700"),
+            ("DC011C", "", "", "6700"), ("DC011C", "010203", "00", "6700"), ("E20018", "", "", "6700"), ("E20018", "010203", "00", "6700"),
+            # The file's own, with the code right and Lc without it.
+            ("B09E00", "", "01", "6A82"), ("D69E00", "AA", "", "6A82"), ("B201F4", "", "00", "6A82"), ("DC01F4", "AA", "", "6A82"),
+            ("E200F0", "AA", "", "6A82"), ("B00000", "", "01", "6A82"), ("B20104", "", "01", "6A82"), ("E20000", "AA", "", "6A82"),
+            ("B08200", "", "01", "6981"), ("D68300", "AA", "", "6981"), ("B08400", "", "01", "6981"), ("B2010C", "", "00", "6981"),
+            ("DC010C", "AA", "", "6981"), ("E20008", "AA", "", "6981"), ("E20010", "AAAAAA", "", "6981"),
+            ("B081FF", "", "02", "6700"), ("D681FF", "AAAA", "", "6700"), ("D681FF", "AA", "", "9000"), ("B091FF", "", "02", "6700"),
+            ("B20314", "", "00", "6A83"), ("DC0314", "AAAAAA", "", "6A83"), ("B2021C", "", "00", "6A83"), ("B20224", "", "00", "6A83"),
+            ("B20114", "", "02", "6C03"), ("B20114", "", "04", "6C03"), ("B2011C", "", "FF", "6C03"), ("B20124", "", "01", "6C03"),
+            ("DC0114", "AAAA", "", "6700"), ("DC0114", "AAAAAAAA", "", "6700"), ("DC0114", "AAAAAAAAAAAAAA", "", "6700"),
+            ("DC0124", "AAAA", "", "6700"), ("E20018", "AAAA", "", "6700"), ("E20018", "AAAAAAAA", "", "6700"),
+            # A record of 179 bytes is too long whatever room there is; 195 of the 200 are left, with its length byte.
+            ("E20020", "AA" * 179, "", "6700"), ("E20020", "AA" * 251, "", "6700"), ("E20020", "AA" * 178, "", "9000"),
+            ("E20020", "AA" * 17, "", "6A84"), ("E20020", "AA" * 16, "", "9000"), ("E20020", "AA", "", "6A84")):
+        check("refused with a right code, %s, %d bytes, Le %s" % (header, len(data) // 2, le or "none"),
+              session.coded(header, data, le), expected)
+    session.coded("B08100", "", "01")
+    check("the offset", session.coded("B00100", "", "01"), "6A84")
+    check("the offset before the length", session.coded("D60100", "AAAA"), "6A84")
+    check("no try is gone by all this", session.tries_of_codes(), 10)
+
+    # Lc 01 to 04 of a write, 01 to 03 of a read, and what is no frame: no presentation.
+    session = code_session(transport_limit=2)
+    for sent in ("04D6810001AA", "04D6810002AAAA", "04D6810003AAAAAA", "04D6810004AAAAAAAA", "04E2001804AAAAAAAA", "04DC011C04AAAAAAAA",
+                 "04B0810003AAAAAA01", "04B0810001AA01", "04B0810005AAAAAAAAAA01", "04B0810004AAAAAAAA", "04B0810001", "04B0810000", "04B08100",
+                 "04D68100", "04D6810005", "04E20018", "04B0810004AAAAAA", "04B0810004AAAAAAAA0101", "04B081000000040000000000", "04B2011C04AAAAAAAA"):
+        session.send("0084000010")
+        check("%s is 6700" % sent, session.send(sent), "6700")
+    check("and no try is gone", session.tries_of_codes(), 2)
+
+    # In class 04 there are the five alone, whatever the mode.
+    for mode in (0, 1):
+        session = code_session(mode=mode, transport_limit=3)
+        check("other INS", [ins for ins in range(256) if session.send("04%02X0000" % ins) != "6D00"], [0xB0, 0xB2, 0xD6, 0xDC, 0xE2])
+        check("other INS of case 4", [ins for ins in range(256) if session.send("04%02X81FF 04 00000000 00" % ins) not in ("6D00", "6A86")],
+              [0xB0, 0xD6])
+        check("no try is gone", session.tries_of_codes(), 3)
+
+
+def test_codes_order():
+    """6983 before 6984 before 6988, all behind 6A86 and 6700 and before whatever the file says."""
+    wrong = "04B0810004 00000000 01"
+    session = code_session(transport_limit=1)
+    for sent, expected in (
+            # No challenge: 6984, and no try is gone.
+            (wrong, "6984"), ("04B09E0004 00000000 01", "6984"), ("04B0820004 00000000 01", "6984"), ("04D6810005 AA00000000", "6984"),
+            ("04B201F404 00000000 00", "6984"), ("04DC01F405 AA00000000", "6984"), ("04E200F005 AA00000000", "6984"),
+            ("04B2011404 00000000 00", "6984"), ("04DC011405 AA00000000", "6984"), ("04E2001805 AA00000000", "6984"),
+            ("04B0800004 00000000 01", "6A86"), ("04B0810003 000000 01", "6700")):
+        check("no challenge, %s" % sent, session.send(sent), expected)
+    check("no presentation", session.tries_of_codes(), 1)
+    for sent, expected in (("04B0800004 00000000 01", "6A86"), ("04B0810003 000000 01", "6700"), ("04B0810004 00000000", "6700")):
+        session.send("0084000010")
+        check("with a challenge, %s" % sent, session.send(sent), expected)
+    check("no presentation either", session.tries_of_codes(), 1)
+    session.send("0084000010")
+    check("a wrong code at the last try", session.send("04B09E0004 00000000 01"), "6988")
+    check("none are left", session.tries_of_codes(), 0)
+    for sent, expected in (
+            (wrong, "6983"), ("04B09E0004 00000000 01", "6983"), ("04B0820004 00000000 01", "6983"), ("04D6810005 AA00000000", "6983"),
+            ("04B2011404 00000000 00", "6983"), ("04DC011405 AA00000000", "6983"), ("04E2001805 AA00000000", "6983"),
+            ("04B0800004 00000000 01", "6A86"), ("04B0810003 000000 01", "6700"), ("04C0000000", "6D00"), ("00B0910001", "00 9000"),
+            ("00B0810001", "6982"), ("00D6910001AA", "9000")):
+        check("blocked, no challenge: %s" % sent, session.send(sent), expected)
+        session.send("0084000010")
+        check("blocked, with a challenge: %s" % sent, session.send(sent), expected)
+    check("blocked, the right code", session.coded("B08100", "", "01"), "6983")
+    check("blocked, the right code on a free file", session.coded("B09100", "", "01"), "6983")
+    # Nothing brings it back.
+    session.admin()
+    session.user()
+    session.send("002C020106 393939393939")
+    session.send("0024010008 3837363534333231")
+    session.log_in()
+    session.reset()
+    check("nothing brings it back", (session.coded("B08100", "", "01"), session.tries_of_codes()), ("6983", 0))
+
+    # A wrong code goes before whatever the file says, and is the same answer for each.
+    session = code_session(transport_limit=128)
+    session.coded("B08100", "", "01")
+    for sent in ("04B201F404 00000000 00", "04DC01F405 AA00000000", "04E200F005 AA00000000", "04B0000004 00000000 01",
+                 "04B09E0004 00000000 01", "04B0820004 00000000 01", "04B081FF04 00000000 02", "04B2031404 00000000 00",
+                 "04B2011404 00000000 09", "04DC011405 AA00000000", "04E2002008 AA00000000000000", "04D681FF06 AAAA00000000",
+                 "04B0910004 00000000 01"):
+        before = session.tries_of_codes()
+        state = snapshot(session.program.card), bytes(session.program.area)
+        session.send("0084000010")
+        check("wrong, %s" % sent, session.send(sent), "6988")
+        check("one try less, %s" % sent, session.tries_of_codes(), before - 1)
+        session.program.card.transport.tries += 1
+        check("and nothing else, %s" % sent, (snapshot(session.program.card), bytes(session.program.area)), state)
+        session.program.card.transport.tries -= 1
+
+
+def test_codes_tries():
+    # A right code restores all tries, whatever follows.
+    for header, data, le, expected in (
+            ("B08100", "", "01", "00 9000"), ("B09E00", "", "01", "6A82"), ("B08200", "", "01", "6981"), ("B081FF", "", "02", "6700"),
+            ("D68100", "AA", "", "9000"), ("D681FF", "AAAA", "", "6700"), ("B20314", "", "00", "6A83"), ("B20114", "", "09", "6C03"),
+            ("DC0114", "AA", "", "6700"), ("E20018", "AA", "", "6700"), ("E20010", "AA", "", "6981"), ("E20020", "AA" * 179, "", "6700"),
+            ("E200F0", "AA", "", "6A82"), ("B00000", "", "01", "6A82"), ("B09100", "", "01", "00 9000"), ("E20020", "AA", "", "9000")):
+        session = code_session(transport_limit=4)
+        for left in (3, 2, 1):
+            session.send("0084000008")
+            check("a wrong code", session.send("04B0810004 12345678 01"), "6988")
+            check("tries left", session.tries_of_codes(), left)
+        check("a right one, %s" % header, session.coded(header, data, le, 8), expected)
+        check("all tries, %s" % header, session.tries_of_codes(), 4)
+    session = code_session(transport_limit=3)
+    session.send("80E00015 05 2800010F0F")
+    session.send("80E00016 05 2800018080")
+    for header, data, le in (("B09500", "", "01"), ("D69500", "AA", ""), ("B09600", "", "01"), ("D69600", "AA", "")):
+        session.send("0084000010")
+        session.send("04B0810004 00000000 01")
+        check("a right that is not held, %s" % header, session.coded(header, data, le), "6982")
+        check("and all tries, %s" % header, session.tries_of_codes(), 3)
+    # The others' tries are theirs: nothing else touches those of the transport key, and a code none of them.
+    session = Session(transport_limit=3, user_limit=3, admin_limit=3, key_limit=3)
+    session.send("0084000010")
+    session.send("04B0810004 00000000 01")
+    for sent in ("0020000106 313131313131", "0020000106 313233343536", "0020000008 3131313131313131", "0020000008 3837363534333231",
+                 "002C020106 303132333435", "0024010008 3837363534333231", "0084000010", "0082000010" + RANDOM, "0084000010",
+                 "0082000010" + CIPHERTEXT, "80E00001 05 2800010404", "00B0810001", "00D6810001AA", "00A40000023F00", "00C0000000"):
+        session.send(sent)
+        check("after %s" % sent, session.tries_of_codes(), 2)
+    session.reset()
+    check("after a reset", session.tries_of_codes(), 2)
+    for name in ("device", "admin", "user"):
+        getattr(session.program.card, name).tries = 2
+    check("a right code", session.coded("B08100", "", "01"), "00 9000")
+    card = session.program.card
+    check("restores its own", [card.transport.tries, card.device.tries, card.admin.tries, card.user.tries], [3, 2, 2, 2])
+    check("and opens no right", [card.device.held, card.admin.held, card.user.held, card.transport.held], [False] * 4)
+    # It opens nothing that asks for a right, whatever the keys are.
+    session = code_session(transport_key=KEY)
+    session.send("80E00015 05 2800010101")
+    session.reset()
+    check("the device key as transport key", session.coded("B09500", "", "01"), "6982")
+    check("on a file that asks a code", session.coded("B08100", "", "01"), "00 9000")
+    session.send("0084000010")
+    check("under another key", session.send(coded("B08100", "", "01")), "6988")
+    check("CREATE asks the device right still", session.send("80E00016 05 2800010000"), "6982")
+    # Limits of 1 and of 128.
+    session = code_session(transport_limit=1)
+    for _ in range(5):
+        check("right with limit 1", session.coded("B08100", "", "01"), "00 9000")
+    session = code_session(transport_limit=128)
+    for left in range(127, -1, -1):
+        session.send("0084000004")
+        check("wrong with limit 128", (session.send("04B0810004 00000000 01"), session.tries_of_codes()), ("6988", left))
+    check("and then", session.coded("B08100", "", "01"), "6983")
+
+
+def test_codes_challenge():
+    """Each coded command needs a challenge of its own, and no other will do."""
+    right = coded("B08100", "", "01")
+    update = coded("D68100", "AA")
+    session = code_session()
+    session.send("0084000010")
+    check("right", session.send(right), "00 9000")
+    check("once more", session.send(right), "6984")
+    check("and an update", session.send(update), "6984")
+    session.send("0084000010")
+    check("wrong", session.send("04B0810004 00000000 01"), "6988")
+    check("the right one behind it", session.send(right), "6984")
+    for sent, expected in (("04B09E0004 00000000 01", "6988"), ("04B0800004 00000000 01", "6A86"), ("04B0810003 000000 01", "6700"),
+                           ("04C0000000", "6D00"), ("04200001", "6D00"), ("05B0810001", "6E00"), ("04B081", "6700"), ("00B0910001", "00 9000"),
+                           ("00B0810001", "6982"), ("00200001", "63C3"), ("00C0000000", "6D00"), ("0084000005", "6700")):
+        session.send("0084000010")
+        check("something else first, %s" % sent, session.send(sent), expected)
+        check("dropped by %s" % sent, session.send(right), "6984")
+    session.send("0084000010")
+    check("refused later", session.send(coded("B09E00", "", "01")), "6A82")
+    check("dropped by it", session.send(right), "6984")
+    session.send("0084000010")
+    session.reset()
+    check("dropped by a reset", session.send(right), "6984")
+    # Outcome 3 keeps it, and so does a line that is none.
+    session.send("0084000010")
+    check("outcome 3", session.send(right, RANDOM[:-2]), "3")
+    session.line("")
+    check("kept by outcome 3", session.send(right), "00 9000")
+    # It is the challenge that stands: another one, another length of it, an older one.
+    for length, random, expected in ((16, RANDOM, "00 9000"), (8, RANDOM, "6988"), (4, RANDOM, "6988"), (16, RANDOM[:-2] + "FE", "6988"),
+                                     (16, "00" * 16, "6988")):
+        session.send("00840000%02X" % length, random)
+        check("for another challenge, %d %s" % (length, random), session.send(right), expected)
+    # 4 and 8 bytes are filled with 00 behind: the same bytes as a challenge of 16 that ends in 00.
+    session.send("0084000010", RANDOM[:8] + "00" * 12)
+    check("00 are a part of it", session.send(coded("B08100", "", "01", 4)), "00 9000")
+    session.send("0084000010", "00" * 12 + RANDOM[:8])
+    check("and not before it", session.send(coded("B08100", "", "01", 4)), "6988")
+    session.send("0084000010")
+    session.send("0084000008", "FF" * 16)
+    check("the older of two", session.send(right), "6988")
+    # EXTERNAL AUTHENTICATE and a code share it: one of them only.
+    session = code_session()
+    session.send("0084000010")
+    check("a login", session.send("0082000010" + CIPHERTEXT), "9000")
+    check("no code behind it", session.send(right), "6984")
+    session.send("0084000010")
+    check("a code", session.send(right), "00 9000")
+    check("no login behind it", session.send("0082000010" + CIPHERTEXT), "6984")
+    # In mode 1 GET RESPONSE keeps it, refused or not.
+    session = code_session(mode=1)
+    check("a challenge that waits", session.send("0084000010"), "6110")
+    for sent, expected in (("00C0000004", RANDOM[:8] + " 610C"), ("00C0000104", "6A86"), ("00C0000000", RANDOM[8:] + " 9000"), ("00C0000000", "6985")):
+        check("fetched, %s" % sent, session.send(sent), expected)
+    check("kept by GET RESPONSE", session.send(right), "6101")
+
+
+def test_codes_message():
+    """A man in the middle: each bit of a good command flipped. None gets through, and the file is as it was."""
+    good = coded("D68110", ELEVEN + "AB")
+    for bit in range(4 * len(good)):
+        session = device_session(transport_limit=128)
+        session.send("80E00001 05 2800400404")
+        session.send("0084000010")
+        changed = bytearray.fromhex(good)
+        changed[bit // 8] ^= 0x80 >> bit % 8
+        before = bytes(session.program.area), snapshot(session.program.card)[:3]
+        place, sent = bit // 8, bytes(changed).hex().upper()
+        if place == 0:
+            expected = "6982" if changed[0] == 0 else "6E00"
+        elif place == 1:
+            expected = "6D00"
+        elif place == 2:
+            # 81 with another bit: an SFI, the current file, or neither.
+            expected = "6988" if changed[2] in (0x83, 0x85, 0x89, 0x91, 0x01) else "6A86"
+        else:
+            expected = "6700" if place == 4 else "6988"
+        check("bit %d flipped" % bit, session.send(sent), expected)
+        check("nothing written with bit %d flipped" % bit, (bytes(session.program.area), snapshot(session.program.card)[:3]), before)
+        check("tries with bit %d flipped" % bit, session.tries_of_codes(), 127 if expected == "6988" else 128)
+    session = code_session()
+    check("the good one", session.coded("D68110", ELEVEN + "AB"), "9000")
+    # Cut short, lengthened, with another INS, P or data, or to another card.
+    other = code_session(transport_key=KEY)
+    for name, sent, target, expected in (
+            ("without its code", good[:-8], session, "6700"), ("cut by a byte, Lc too", good[:8] + "0F" + good[10:-2], session, "6988"),
+            ("its data cut by a byte, Lc too", good[:8] + "0F" + good[10:-10] + good[-8:], session, "6988"),
+            ("a byte more, Lc too", good[:8] + "11" + good[10:-8] + "00" + good[-8:], session, "6988"),
+            ("80 more, Lc too", good[:8] + "11" + good[10:-8] + "80" + good[-8:], session, "6988"),
+            ("to another card", good, other, "6988"), ("as a record's", "04DC" + good[4:], session, "6A86"),
+            ("as a read", "04B0" + good[4:8] + "04" + good[-8:] + "01", session, "6988"),
+            ("as a plain update", "00" + good[2:], session, "6982"), ("as a plain update of a free file", "00D691" + good[6:], session, "9000")):
+        target.send("0084000010")
+        check("a good one %s" % name, target.send(sent), expected)
+    # Errors that look right: each of these codes is worked out by openssl with one thing other.
+    def padded(message):
+        return message + "80" + "00" * (-(len(message) // 2 + 1) % 16)
+
+    def chained(start, blocks, key=TRANSPORT_KEY):
+        return codes.last_block(key, start, blocks)[:4].hex().upper()
+
+    session = code_session(transport_limit=128)
+    full = "04D681000F" + ELEVEN
+    read = "04B0810004"
+    for name, sent, wrong, length in (
+            ("no padding where the message fills its blocks", full, chained(RANDOM, full), 16),
+            ("an initial value of 00", read, chained("00" * 16, padded(read)), 16),
+            ("Lc without the code", full, chained(RANDOM, padded("04D681000B" + ELEVEN)), 16),
+            ("Lc without the code, a read", read, chained(RANDOM, padded("04B0810000")), 16),
+            ("Lc not covered", full, chained(RANDOM, padded("04D68100" + ELEVEN)), 16),
+            ("class 00", full, chained(RANDOM, padded("00D681000F" + ELEVEN)), 16), ("no class", full, chained(RANDOM, padded(full[2:])), 16),
+            ("Le covered", read, chained(RANDOM, padded(read + "01")), 16), ("the data alone", full, chained(RANDOM, padded(ELEVEN)), 16),
+            ("the header alone", full, chained(RANDOM, padded(full[:10])), 16),
+            ("padded by 00 alone", read, chained(RANDOM, read + "00" * 11), 16),
+            ("the challenge filled in front", read, chained("00" * 12 + RANDOM[:8], padded(read)), 4),
+            ("the challenge filled with 80 and 00", read, chained(RANDOM[:8] + "80" + "00" * 11, padded(read)), 4),
+            ("the challenge doubled", read, chained(RANDOM[:16] * 2, padded(read)), 8),
+            ("the challenge as a block of its own", read, chained("00" * 16, RANDOM + padded(read)), 16),
+            ("the device key", read, chained(RANDOM, padded(read), KEY), 16),
+            ("the rightmost four bytes", read, codes.last_block(TRANSPORT_KEY, RANDOM, padded(read))[-4:].hex().upper(), 16),
+            ("the bytes turned round", read, bytes.fromhex(codes.code(TRANSPORT_KEY, RANDOM, read))[::-1].hex().upper(), 16),
+            ("three right bytes", read, "CACC13" + "5D", 16), ("three right bytes behind", read, "CBCC135C", 16),
+            ("the second other", read, "CA4C135C", 16), ("the third other", read, "CACC115C", 16)):
+        session.send("00840000%02X" % length)
+        check(name, session.send(sent + wrong + ("01" if sent == read else "")), "6988")
+    check("the right ones", (session.coded("D68100", ELEVEN), session.coded("B08100", "", "01", 4)), ("9000", "A0 9000"))
+
+
+def test_codes_rights():
+    """Each byte with bit 3 and each set of rights: a code is needed, and all that the byte asks besides."""
+    check("as the paper has them", [byte in CODED_ASKED for byte in (0x44, 0xC4, 0xC6, 0x86, 0x05, 0x47, 0x04)], [True] * 7)
+    check("and those that are bad", [byte in CODED_ASKED for byte in (0x06, 0x0C, 0x14, 0x0E, 0x0F, 0x24)], [False] * 6)
+    for byte, asked in CODED_ASKED.items():
+        session = device_session()
+        check("create with %02X" % byte, session.send("80E00001 05 280001%02X%02X" % (byte, byte)), "9000")
+        check("create records with %02X" % byte, session.send("80E00002 05 2E0201%02X%02X" % (byte, byte)), "9000")
+        session.reset()
+        for names in sets_of_rights(session):
+            passes = any(set(needed.split()) <= names for needed in asked)
+            shown = "%02X with %s" % (byte, " ".join(sorted(names)) or "nothing")
+            # First without a code: 6982 for each, at the right's place.
+            check("without a code " + shown, [session.send(sent) for sent in (
+                "00B0810001", "00D681000100", "00E2001001AA", "00DC011401BB", "00B2011400", "00B0810101", "00B2FF1400", "00B0810000")],
+                ["6982"] * 8)
+            check("type before it " + shown, [session.send(sent) for sent in ("00B0820001", "00B2010C00", "00B08100", "00B0800001")],
+                  ["6981", "6981", "6700", "6A86"])
+            for header, data, le, expected in (("D68100", "5B", "", "9000"), ("B08100", "", "01", "5B 9000"), ("E20010", "AA", "", "9000"),
+                                               ("DC0114", "BB", "", "9000"), ("B20114", "", "00", "BB 9000")):
+                check("%s with a code %s" % (header, shown), session.coded(header, data, le), expected if passes else "6982")
+            check("tries " + shown, session.tries_of_codes(), 10)
+    # Read and write right by themselves.
+    session = device_session()
+    session.send("80E00001 05 2800010400")
+    session.send("80E00002 05 2800010004")
+    session.send("80E00003 05 2800010F0F")
+    check("a code to read only", [session.send("00B0810001"), session.send("00D6810001AA"), session.coded("B08100", "", "01")],
+          ["6982", "9000", "AA 9000"])
+    check("a code to write only", [session.send("00B0820001"), session.send("00D6820001AA"), session.coded("D68200", "BB"), session.send("00B0820001")],
+          ["00 9000", "6982", "9000", "BB 9000"])
+    check("0F is never, with a code too", [session.send("00B0830001"), session.coded("B08300", "", "01"), session.coded("D68300", "AA")], ["6982"] * 3)
+    # As either right, not beside it: C6 is one of two PINs and a code.
+    session = device_session()
+    session.send("80E00001 05 280001C6C6")
+    session.reset()
+    check("C6 by a code alone", session.coded("B08100", "", "01"), "6982")
+    session.user()
+    check("C6 by a PIN alone", session.send("00B0810001"), "6982")
+    check("C6 by both", session.coded("B08100", "", "01"), "00 9000")
+    # A directory's creation right has no bit 3; files in it may.
+    session = device_session()
+    check("creation rights with bit 3", [byte for byte in range(256) if byte & 4 and session.send("80E05101 05 380000%02X00" % byte) != "6A80"], [0x0F])
+    session.send("80E05102 05 3800000000")
+    session.send("00A40000025102")
+    check("a file in it", session.send("80E00001 05 2800020404"), "9000")
+    check("used by a code", [session.coded("D68100", "A1A2"), session.coded("B00000", "", "00"), session.send("00B0000000")],
+          ["9000", "A1A2 9000", "6982"])
+    session.send("00A40000023F00")
+    check("not from the root", (session.coded("B08100", "", "01"), session.coded("B00000", "", "01")), ("6A82", "6A82"))
+
+
+def test_codes_fetched():
+    """Mode 1: what a coded read gives waits."""
+    session = code_session(mode=1)
+    check("an update has nothing to wait", session.coded("D68100", "A1A2A3"), "9000")
+    for le, count, expected in (("01", "01", "A1"), ("03", "03", "A1A2A3"), ("00", "00", "A1A2A3" + "00" * 253)):
+        check("a read waits, Le %s" % le, session.coded("B08100", "", le), "61" + count)
+        check("and is fetched", session.fetch(), expected + " 9000")
+    check("a record waits", session.coded("B2011C", "", "00"), "6103")
+    check("its parts", [session.send("00C0000002"), session.send("00C0000002"), session.send("00C0000001")], ["C0C1 6101", "6C01", "C2 9000"])
+    for sent, expected in (("04C0000000", "6D00"), ("04C0000003", "6D00"), ("04C00000", "6D00"), ("04C0000004 00000000 00", "6D00"),
+                           ("04B0810004 00000000 01", "6984"), ("04B0800004 00000000 01", "6A86"), ("04B08100", "6700"), ("00B0810001", "6982")):
+        check("a read waits", session.coded("B08100", "", "03"), "6103")
+        check("then %s" % sent, session.send(sent), expected)
+        check("discarded by %s" % sent, session.send("00C0000000"), "6985")
+        session.send("0084000010")
+        check("once more %s" % sent, session.send(sent), "6988" if expected == "6984" else expected)
+        check("the challenge dropped by %s" % sent, session.send(coded("B08100", "", "01")), "6984")
+    check("no waiting by a refusal", session.coded("B09E00", "", "01"), "6A82")
+    check("nothing waits", session.send("00C0000000"), "6985")
+    # What waits when the code is refused is discarded too: the challenge itself waits.
+    session.send("0084000010")
+    check("a wrong code", session.send("04B0810004 00000000 01"), "6988")
+    check("nothing waits behind it", session.send("00C0000000"), "6985")
+    session = code_session(mode=0)
+    session.coded("B08100", "", "01")
+    check("no GET RESPONSE in mode 0, in class 04 either", [session.send("00C0000000"), session.send("04C0000000")], ["6D00"] * 2)
+
+
 def test_grammar():
     def outcomes(*lines):
         output = script.run(script.lines_of(b"".join(line + b"\n" for line in lines)))
         return [line.split(b"\t")[1].decode() for line in output.splitlines()[1:]]
 
-    good = b"ISSUE\t%s\t3\t123456\t3\t654321\t3\t0" % KEY.encode()
+    good = b"ISSUE\t%s\t3\t123456\t3\t654321\t3\t0\t%s\t3" % (KEY.encode(), TRANSPORT_KEY.encode())
     check("empty input", script.run(script.lines_of(b"")), script.HEADER)
     check("one newline", script.run(script.lines_of(b"\n")), script.HEADER + b"1\t9\t-\t-\n")
     check("a last line without newline", script.run(script.lines_of(b"\n" + good)),
@@ -1884,15 +2423,22 @@ def test_grammar():
           ["9", "9", "9", "5", "9", "0", "0"])
     for limit, expected in (("0", 5), ("1", 0), ("128", 0), ("129", 5), ("65535", 5), ("65536", 9), ("00", 9), ("01", 9),
                             ("", 9), ("+1", 9), ("-1", 9), (" 1", 9), ("1 ", 9), ("1\r", 9), ("100000", 9), ("A", 9)):
-        for place in (2, 4, 6):
+        for place in (2, 4, 6, 9):
             fields = good.split(b"\t")
             fields[place] = limit.encode()
             check("limit %r" % limit, outcomes(b"\t".join(fields)), [str(expected)])
     for mode, expected in (("0", 0), ("1", 0), ("2", 5), ("10", 5), ("128", 5), ("256", 5), ("257", 5), ("65535", 5), ("65536", 9),
                            ("65537", 9), ("00", 9), ("01", 9), ("", 9), ("+1", 9), ("-1", 9), (" 1", 9), ("1 ", 9), ("1\r", 9),
                            ("-", 9), ("A", 9), ("1\t", 9), ("1\t0", 9)):
-        check("mode %r" % mode, outcomes(good[:-1] + mode.encode()), [str(expected)])
-    check("no mode", outcomes(good[:-2]), ["9"])
+        fields = good.split(b"\t")
+        fields[7] = mode.encode()
+        check("mode %r" % mode, outcomes(b"\t".join(fields)), [str(expected)])
+    fields = good.split(b"\t")
+    check("no mode", outcomes(b"\t".join(fields[:7] + fields[8:])), ["9"])
+    check("fewer fields", [outcomes(b"\t".join(fields[:count])) for count in range(10)], [["9"]] * 10)
+    check("a field more", outcomes(good + b"\t"), ["9"])
+    check("as before R-9", outcomes(b"\t".join(fields[:8])), ["9"])
+    check("the transport key before the mode", outcomes(b"\t".join(fields[:7] + fields[8:] + fields[7:8])), ["9"])
     for pin, expected in ((b"", 5), (b"12345", 5), (b"123456", 0), (b"1234567890123456", 0), (b"12345678901234567", 5),
                           (b"12345\r", 5), (b"\xff" * 8, 5), (b"\x00", 5)):
         for place in (3, 5):
@@ -1901,9 +2447,10 @@ def test_grammar():
             check("PIN %r" % pin, outcomes(b"\t".join(fields)), [str(expected)])
     for key, expected in ((b"", 5), (b"00" * 15, 5), (b"00" * 16, 0), (b"00" * 17, 5), (b"00" * 300, 5), (b"00" * 301, 9),
                           (b"0" * 31, 9), (b"ab" * 16, 9), (b"0G" * 16, 9)):
-        fields = good.split(b"\t")
-        fields[1] = key
-        check("key %r" % key, outcomes(b"\t".join(fields)), [str(expected)])
+        for place in (1, 8):
+            fields = good.split(b"\t")
+            fields[place] = key
+            check("key %r" % key, outcomes(b"\t".join(fields)), [str(expected)])
     random = RANDOM.encode()
     for line, expected in (
             (b"", 9), (b"\r", 9), (b"RESET", 0), (b"RESET\r", 9), (b"RESET\t", 9), (b"reset", 9), (b" RESET", 9), (b"CMD", 9),
@@ -1914,18 +2461,18 @@ def test_grammar():
             (b"CMD\t" + b"00" * 300 + b"\t" + random, 0), (b"CMD\t" + b"00" * 301 + b"\t" + random, 9),
             (b"CMD\t00200001\t" + b"00" * 300, 3), (b"CMD\t00200001\t" + b"00" * 301, 9),
             (b"CMD\t" + b"00" * 300 + b"\t" + b"00" * 209, 3), (b"CMD\t" + b"00" * 300 + b"\t" + b"00" * 210, 9),
-            (b"ISSUE\t\t3\t\t3\t\t3\t0", 5), (good + b"\t", 9), (good[:-2], 9), (b"CMDX\t\t", 9)):
+            (b"ISSUE\t\t3\t\t3\t\t3\t0\t\t3", 5), (good + b"\t", 9), (good[:-2], 9), (b"CMDX\t\t", 9)):
         check("line %r" % line[:60], outcomes(good, line)[1:], [str(expected)])
     for length, expected in ((1023, "5"), (1024, "5"), (1025, "9"), (1026, "9")):
         line = good.replace(b"654321", b"6" * (length - len(good) + 6))
         check("a line of %d" % length, (len(line), outcomes(line)), (length, [expected]))
         check("a line of %d between others" % length, outcomes(good, line, b"RESET"), ["0", expected, "0"])
     check("a refused ISSUE keeps the earlier card",
-          outcomes(good, b"CMD\t0084000010\t" + random, b"ISSUE\t\t3\t\t3\t\t3\t0", b"", b"CMD\t0082000010%s\t%s" % (
+          outcomes(good, b"CMD\t0084000010\t" + random, b"ISSUE\t\t3\t\t3\t\t3\t0\t\t3", b"", b"CMD\t0082000010%s\t%s" % (
               CIPHERTEXT.encode(), random), b"CMD\t80E00001052800010000\t" + random), ["0", "0", "5", "9", "0", "0"])
     session = Session()
     session.send("0084000010")
-    session.line("ISSUE\t\t3\t\t3\t\t3\t0")
+    session.line("ISSUE\t\t3\t\t3\t\t3\t0\t\t3")
     session.line("")
     check("its challenge too", session.send("0082000010" + CIPHERTEXT), "9000")
     session.line(good.decode())
@@ -1938,11 +2485,15 @@ def test_grammar():
 
 
 class History:
-    """Rights as the paper defines them, from what was sent and answered, beside the rights that the model keeps."""
+    """Rights and tries as the paper defines them, from what was sent and answered, beside those that the model keeps."""
 
     def __init__(self):
         self.values = {}
+        self.limits, self.tries = {}, {}
         self.events = []
+        self.challenge = b""
+        # What was presented to the transport key, for openssl: key, challenge, message, code, and whether it was taken.
+        self.codes = []
         self.disagreements = []
         self.unsound = 0
 
@@ -1962,18 +2513,52 @@ class History:
         if outcome != 0:
             return
         if fields[0] == b"ISSUE":
-            self.values = {"admin": fields[3], "user": fields[5]}
+            self.values = {"admin": fields[3], "user": fields[5], "transport": fields[8].decode()}
+            self.limits = {name: int(fields[place]) for name, place in (("device", 2), ("admin", 4), ("user", 6), ("transport", 9))}
+            self.tries = dict(self.limits)
             self.events = [(None, "issue")]
+            self.challenge = b""
         elif fields[0] == b"RESET":
             self.events = [(None, "reset")]
+            self.challenge = b""
         else:
-            self.note(bytes.fromhex(fields[1].decode()), sw)
+            sent, count = bytes.fromhex(fields[1].decode()), len(self.events)
+            self.note(sent, sw)
+            self.count(self.events[count:])
+            if sent[:2] == b"\x00\x84" and (sw == 0x9000 or sw >> 8 == 0x61):
+                self.challenge = bytes.fromhex(fields[2].decode())[:sent[4]]
+            elif sent[:2] != b"\x00\xC0" or cards.frame_of(sent) is None or program.card.mode == cards.AT_ONCE:
+                self.challenge = b""
+        tries = {name: getattr(program.card, name).tries for name in self.tries}
+        if tries != self.tries or program.card.transport.held:
+            self.disagreements.append((line, tries, dict(self.tries)))
         held = {name: getattr(program.card, name).held for name in ("device", "admin", "user")}
         defined = {name: self.is_held(name) for name in held}
         if held != defined:
             self.disagreements.append((line, held, defined))
 
+    def count(self, events):
+        """One try less for each wrong presentation, all of them after a right one or a reload."""
+        for who, what in events:
+            self.tries[who] = self.tries[who] - 1 if what == "wrong" else self.limits[who]
+
+    def note_code(self, sent, sw):
+        """A code is presented where it is compared: behind 6A86, 6700, 6983 and 6984."""
+        frame, name = cards.frame_of(sent), generate.NAMES.get(tuple(sent[:2]))
+        if frame is None or name is None or not generate.has_code_form(name, frame) or sw in (0x6A86, 0x6983, 0x6984):
+            # No tries and no challenge are told in this order.
+            if sw == 0x6983 and self.tries["transport"] or sw == 0x6984 and (self.challenge or not self.tries["transport"]):
+                self.disagreements.append((sent, sw))
+            return
+        size = 5 + len(frame.data)
+        self.codes.append((self.values["transport"], self.challenge.hex().upper(), sent[:size - 4].hex().upper(),
+                           sent[size - 4:size].hex().upper(), sw != 0x6988))
+        self.events.append(("transport", "wrong" if sw == 0x6988 else "right"))
+
     def note(self, sent, sw):
+        if sent[:1] == b"\x04":
+            self.note_code(sent, sw)
+            return
         ends_right, ends_wrong = sw == 0x9000, sw & 0xFFF0 == 0x63C0
         pin = ("admin", "user")[sent[3]] if len(sent) > 5 and sent[3] < 2 else None
         if sent[:2] == b"\x00\x20" and len(sent) > 5 and (ends_right or ends_wrong):
@@ -2027,7 +2612,7 @@ class Places:
 
     def agrees(self, sent, frame, sw):
         """Whether what is found is what the commands before have made; then moves as the command does."""
-        name = next((name for cla, ins, name, _ in cards.LIST if (cla, ins) == (sent[0], sent[1])), None)
+        name = generate.NAMES.get((sent[0], sent[1]), "").removesuffix(generate.WITH_A_CODE)
         if name == "SELECT" and sw in (0x9000, 0x6A82):
             self.selected += 1
             fid = frame.data[0] << 8 | frame.data[1]
@@ -2050,7 +2635,7 @@ class Places:
                     self.made[self.home].append(fid)
                     self.current = fid
             return clash == (sw == 0x6986) and len(self.made) <= 5 and sum(map(len, self.made.values())) <= 16
-        if name in generate.FILE_COMMANDS and sw not in (0x6A86, 0x6700):
+        if name in generate.FILE_COMMANDS and sw not in (0x6A86, 0x6700, 0x6983, 0x6984, 0x6988):
             sfi = (frame.p1 & 0x1F if frame.p1 & 0x80 else 0) if "BINARY" in name else frame.p2 >> 3
             named = [fid for fid in self.made[self.home] if fid % 32 == sfi] if sfi else [self.current] * (self.current is not None)
             if sw == 0x9000:
@@ -2070,6 +2655,7 @@ class Beside:
     def __init__(self):
         self.files = {}
         self.compared = 0
+        self.coded = 0
         self.disagreements = []
 
     def watch(self, program, line, answer):
@@ -2078,14 +2664,21 @@ class Beside:
             return
         if line.startswith(b"ISSUE"):
             self.files = {}
-        if sw is None or sw in (0x6A86, 0x6A82, 0x6981, 0x6982, 0x6D00, 0x6E00):
+        if sw is None or sw in (0x6A86, 0x6A82, 0x6981, 0x6982, 0x6983, 0x6984, 0x6988, 0x6D00, 0x6E00):
             return
         sent = script.bytes_of(line.split(b"\t")[1])
         data, sw = generate.as_in_mode_0(program.card, sent, data, sw)
         frame = cards.frame_of(sent)
         if frame is None:
             return
-        name = next(name for cla, ins, name, _ in cards.LIST if (cla, ins) == (sent[0], sent[1]))
+        name = generate.NAMES[sent[0], sent[1]]
+        if name.endswith(generate.WITH_A_CODE):
+            # The file's checks are those of the command without its code.
+            if not generate.has_code_form(name, frame):
+                return
+            name = name.removesuffix(generate.WITH_A_CODE)
+            frame = cards.Frame(2 if frame.case == 4 else 3, b"\x00" + frame.header[1:], frame.data[:-4], frame.le)
+            self.coded += 1
         if name == "CREATE FILE" and sw == 0x9000 and frame.data[0] == self.kind:
             self.files[home_of(program.card), frame.p2 & 0x1F] = self.created(frame.data[1] << 8 | frame.data[2])
         if self.words not in name or frame.case != (2 if name.startswith("READ") else 3):
@@ -2173,7 +2766,9 @@ class Twin:
             self.program = None
             if program.card.mode == cards.FETCHED:
                 self.program = script.Program()
-                self.program.answer(line[:-1] + b"0")
+                fields = line.split(b"\t")
+                fields[7] = b"0"
+                self.program.answer(b"\t".join(fields))
             return
         if self.program is None:
             return
@@ -2263,6 +2858,13 @@ def test_generated():
         check("binary files are bytes, seed %d" % seed, contents.disagreements[:3], [])
         check("binary files are used often, seed %d" % seed, contents.compared > 100, True)
         check("and read to the end, seed %d" % seed, contents.to_end > 20, True)
+        check("with codes too, seed %d" % seed, (lists.coded > 50, contents.coded > 30), (True, True))
+        taken = [presented for presented in history.codes if presented[-1]]
+        refused = [presented for presented in history.codes if not presented[-1]]
+        check("codes are presented often, seed %d" % seed, (len(taken) > 100, len(refused) > 30), (True, True))
+        # Every fourth by openssl: a code was taken exactly where it is right.
+        check("a code that is taken is openssl's, and one that is refused is not, seed %d" % seed,
+              [presented for presented in taken[::4] + refused[::4] if (codes.code(*presented[:3]) == presented[3]) != presented[4]], [])
         check("however cut, the data of mode 0, seed %d" % seed, twin.disagreements[:3], [])
         fetched += twin.fetched
     check("data are fetched often", fetched > 300, True)
@@ -2276,7 +2878,9 @@ def main():
                  test_variable_space, test_variable_records, test_variable_many, test_text_example, test_text_fields,
                  test_text_folders, test_text_lines, test_text_sizes, test_text_calls, test_text_generated, test_text_conversions,
                  test_text_converted, test_framing, test_files, test_read_to_end,
-                 test_response, test_rights, test_credentials, test_grammar, test_generated):
+                 test_response, test_rights, test_credentials, test_code, test_codes_served, test_codes_refused, test_codes_order,
+                 test_codes_tries, test_codes_challenge, test_codes_message, test_codes_rights, test_codes_fetched, test_grammar,
+                 test_generated):
         test()
     print("%d passed, %d failed" % (passed, failed))
     return 1 if failed else 0

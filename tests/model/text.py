@@ -1,5 +1,5 @@
-"""Requests R-4, R-8 and, for the session line, R-6 of document 02, over the model of the card: a whole card written as lines,
-and read from them, in the new form of R-8 or in the old one; and a text of one form made into one of the other.
+"""Requests R-4, R-8 and, for the lines that they add to, R-6 and R-9 of document 02, over the model of the card: a whole card
+written as lines, and read from them, in the new form of R-8 or in the old one; and a text of one form made into one of the other.
 
 The new form is the one that writer and reader use. The old one has no directories and no field that names one: only a card
 without a directory has lines of that form, and all files read from them lie in the root.
@@ -94,7 +94,8 @@ def to_text(card, area, form=NEW):
     """The lines of a card and the bytes of its files. Only of a sound card are they the lines of one."""
     if form == OLD and card.folders:
         raise ValueError("a card with directories has no lines of the old form")
-    text = [credential_line(card.device), credential_line(card.admin), credential_line(card.user), session_line(card, form)]
+    text = [credential_line(credential) for credential in (card.device, card.admin, card.user, card.transport)]
+    text.append(session_line(card, form))
     text += [folder_line(folder) for folder in card.folders]
     for file in card.files:
         text.append(file_line(file, form))
@@ -236,7 +237,7 @@ def file_with(card, fid):
 def read_card(lines, form):
     """The card of the lines and the data area that goes with it."""
     card = cards.Card()
-    card.device, card.admin, card.user = read_credential(lines), read_credential(lines), read_credential(lines)
+    card.device, card.admin, card.user, card.transport = [read_credential(lines) for _ in range(4)]
     fields, home = take_with_home(lines, 7, form)
     *rights, current, challenge, mode, waiting = fields
     card.device.held, card.admin.held, card.user.held = [read_flag(right) for right in rights]

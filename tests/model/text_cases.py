@@ -6,7 +6,7 @@ Where one of the two is 0 there are no such cases at all.
 A case is a letter and its fields, each four bytes of length, the lowest first, and so many bytes:
 
     I  key, limit, admin PIN, limit, user PIN, limit,   issue a card; limits and mode are two bytes, the lowest first
-       mode
+       mode, transport key, limit
     C  command, random input, outcome, reply            give it a command
     R                                                   reset it
     W  text, card, contents                             write it, read it, and go on with both
@@ -35,6 +35,9 @@ SHARE_OF_LINES = 10
 LINES_A_WRITING = 12
 # Changed texts to a card.
 CHANGES_A_CARD = 60
+
+# The place of the session's line, behind those of the credentials.
+SESSION = 4
 
 # ---------------------------------------------------------------------------------------------------------------------
 # Records of the stream
@@ -65,14 +68,14 @@ def folder_bytes(folder):
 
 def card_bytes(card):
     """The card as struct layout of tests/c/layout.h has it."""
-    credentials = (card.device, card.admin, card.user)
+    credentials = (card.device, card.admin, card.user, card.transport)
     files = b"".join([file_bytes(card, file) for file in card.files])
     folders = b"".join([folder_bytes(folder) for folder in card.folders])
     current = 0 if card.current is None else 1 + card.files.index(card.current)
     return (b"".join([credential_bytes(credential) for credential in credentials])
             + files.ljust(16 * 12, b"\x00") + bytes((len(card.files),))
             + folders.ljust(4 * 3, b"\x00") + bytes((len(card.folders),))
-            + bytes([credential.held for credential in credentials]) + bytes((current,))
+            + bytes([credential.held for credential in credentials[:3]]) + bytes((current,))
             + card.challenge.ljust(16, b"\x00") + bytes((len(card.challenge), place_of(card, card.folder)))
             + struct.pack(">BH", card.mode, len(card.waiting)) + card.waiting.ljust(cards.MOST_WAITING, b"\x00"))
 
@@ -117,9 +120,10 @@ def line_record(line, answer):
     outcome, data, sw = answer
     fields = line.split(b"\t")
     if outcome == 0 and fields[0] == b"ISSUE":
-        key, device_limit, admin, admin_limit, user, user_limit, mode = fields[1:]
-        numbers = [struct.pack("<H", int(number)) for number in (device_limit, admin_limit, user_limit, mode)]
-        return record(b"I", bytes.fromhex(key.decode()), numbers[0], admin, numbers[1], user, numbers[2], numbers[3])
+        key, device_limit, admin, admin_limit, user, user_limit, mode, transport_key, transport_limit = fields[1:]
+        numbers = [struct.pack("<H", int(number)) for number in (device_limit, admin_limit, user_limit, mode, transport_limit)]
+        return record(b"I", bytes.fromhex(key.decode()), numbers[0], admin, numbers[1], user, numbers[2], numbers[3],
+                      bytes.fromhex(transport_key.decode()), numbers[4])
     if outcome == 0 and fields[0] == b"RESET":
         return record(b"R")
     if fields[0] == b"CMD" and outcome != 9:
@@ -173,7 +177,7 @@ class Draft:
 
     def copied(self):
         card = cards.Card()
-        card.device, card.admin, card.user = [copied_credential(credential) for credential in self.credentials]
+        card.device, card.admin, card.user, card.transport = [copied_credential(credential) for credential in self.credentials]
         card.challenge, card.mode, card.waiting = self.card.challenge, self.card.mode, self.card.waiting
         card.folders = [cards.Folder(folder.fid, folder.right) for folder in self.card.folders]
         copies = {None: None, **dict(zip(self.card.folders, card.folders))}
@@ -185,7 +189,7 @@ class Draft:
 
     @property
     def credentials(self):
-        return self.card.device, self.card.admin, self.card.user
+        return self.card.device, self.card.admin, self.card.user, self.card.transport
 
     def text(self, form=texts.NEW):
         """Its lines. Where there are folders these have lines in either form, and so the old one is none."""
@@ -273,13 +277,13 @@ def any_fid(dice, sfi):
 def random_card(dice, has_folders=True):
     """The text of any sound card, whether commands lead to it or not. Mostly a short one. It may be one without folders."""
     card = cards.Card()
-    card.device, card.admin, card.user = [
+    card.device, card.admin, card.user, card.transport = [
         cards.Credential(value, dice.pick((1, 2, 3, 9, 10, 99, 100, 127, 128)))
-        for value in (dice.bytes(16), dice.digits(dice.between(6, 16)), dice.digits(dice.between(6, 16)))]
+        for value in (dice.bytes(16), dice.digits(dice.between(6, 16)), dice.digits(dice.between(6, 16)), dice.bytes(16))]
     draft = Draft(card, [])
     for credential in draft.credentials:
         credential.tries = dice.pick((0, credential.limit, credential.limit, dice.between(0, credential.limit)))
-        credential.held = credential.tries == credential.limit and dice.chance(0.5)
+        credential.held = credential is not card.transport and credential.tries == credential.limit and dice.chance(0.5)
     card.challenge = dice.bytes(dice.pick((0, 4, 8, 16)))
     card.mode = dice.below(2)
     if card.mode == cards.FETCHED:
@@ -288,7 +292,7 @@ def random_card(dice, has_folders=True):
     for _ in range(dice.weighted(((0, 4), (1, 4), (2, 4), (3, 1), (4, 2))) if has_folders else 0):
         fid = any_fid(dice, dice.between(1, 30))
         if all(folder.fid != fid for folder in card.folders):
-            draft.add_folder(fid, dice.weighted(generate.GOOD_RIGHTS))
+            draft.add_folder(fid, dice.weighted(generate.GOOD_CREATION))
     most = dice.weighted(((12, 3), (40, 5), (100, 4), (400, 2), (4096, 0.4)))
     for _ in range(dice.weighted(((0, 1), (1, 3), (2, 4), (4, 4), (16, 1)))):
         kind = dice.pick((cards.BINARY, cards.FIXED, cards.VARIABLE, cards.CYCLIC))
@@ -314,23 +318,24 @@ def file_lines(fid, created, held, newest, contents, home=cards.ROOT_FID):
 
 
 CREDENTIALS = b"FF" * 16 + b"\t128\t128\n" + b"39" * 16 + b"\t128\t128\n" + b"303132333435\t1\t0\n"
+CREDENTIALS += b"00" * 16 + b"\t2\t1\n"
 FRESH = CREDENTIALS + b"0\t0\t0\t-\t-\t0\t-\t3F00\n"
 
 
 def edge_cards():
     """Texts of cards at the edges of what a card can hold."""
-    longest = b"FF" * 16 + b"\t128\t128\n" + 2 * (b"39" * 16 + b"\t128\t128\n") + b"1\t1\t1\tFF01\t" + b"FF" * 16
+    longest = b"FF" * 16 + b"\t128\t128\n" + 2 * (b"39" * 16 + b"\t128\t128\n") + b"FE" * 16 + b"\t128\t128\n" + b"1\t1\t1\tFF01\t" + b"FF" * 16
     longest += b"\t1\t" + b"FF" * 256 + b"\tFF04\n" + b"".join([b"FF%02X\tC1\n" % number for number in range(1, 5)])
     for number in range(1, 17):
         count = 129 if number < 16 else 113
         home = 0xFF04 if number < 3 else 0x3F00 if number > 14 else 0xFF01
         longest += file_lines(0xFF00 + number, bytes((0x2E, count, 2, 0xC1, 0x0F)), count, count - 1, b"\xA5" * (2 * count), home)
-    all_types = (b"00" * 16 + b"\t5\t5\n" + b"313233343536\t3\t2\n" + b"39" * 16 + b"\t128\t128\n"
+    all_types = (b"00" * 16 + b"\t5\t5\n" + b"313233343536\t3\t2\n" + b"39" * 16 + b"\t128\t128\n" + b"5A" * 16 + b"\t1\t0\n"
                  + b"1\t0\t1\t0104\t0011223344556677\t1\t00FF5A\t3F00\n"
                  + file_lines(0x0101, b"\x28\x00\x21\x00\x01", 0, 0, bytes(range(33)))
                  + file_lines(0x0102, b"\x2A\x02\x03\x80\x00", 0, 0, bytes(range(6)))
                  + file_lines(0x0103, b"\x2E\x03\x02\xC2\x0F", 2, 2, bytes(range(6)))
-                 + file_lines(0x0104, b"\x2C\x00\x08\x83\x42", 5, 0, b"\x01\xAA\x02\xBB\xCC\x00\x00\xFF"))
+                 + file_lines(0x0104, b"\x2C\x00\x08\xC6\x04", 5, 0, b"\x01\xAA\x02\xBB\xCC\x00\x00\xFF"))
     # The same SFI in root and folders, the same FID in two folders, and a file with the FID of its own folder.
     one = b"\x28\x00\x01\x00\x00"
     two_firms = (CREDENTIALS + b"0\t0\t0\t5102\t-\t0\t-\t5102\n" + b"5101\t01\n5102\t0F\n511E\tC2\n0121\t00\n"
@@ -372,7 +377,7 @@ class Source:
 
     def numbers(self):
         """Line and field of every number: limits, tries, held and newest."""
-        return [(line, field) for line in range(3) for field in (1, 2)] + [(line, field) for line in self.files() for field in (2, 3)]
+        return [(line, field) for line in range(SESSION) for field in (1, 2)] + [(line, field) for line in self.files() for field in (2, 3)]
 
     def files(self):
         """The lines of files, contents apart."""
@@ -475,18 +480,18 @@ def changed_field(dice, source):
 
 
 def other_none(dice, source):
-    """No current file, no challenge or nothing waiting, as it is written or in another way."""
+    """No current file, no challenge or nothing waiting, as it is written or in another way; or so in a right's place."""
     new = dice.pick((b"-", b"", b"0", b"00", b"0000", b"3F00", b"FFFF", b"--", b" ", b"none"))
-    return source.with_field(3, dice.pick((3, 4, 6)), new)
+    return source.with_field(SESSION, dice.pick((3, 4, 6, 3, 4, 6, 0, 1, 2)), new)
 
 
 def other_mode(dice, source):
     """Another mode, or what is none, with the waiting bytes as they are or with others."""
     mode = dice.pick((b"0", b"0", b"1", b"1", b"2", b"", b"-", b"00", b"01", b"10", b"+1", b"1 ", b"A", b"257"))
-    text = source.with_field(3, 5, mode)
+    text = source.with_field(SESSION, 5, mode)
     if dice.chance(0.5):
         new = dice.pick((b"-", b"-", b"00", b"A5", b"a5", b"A", b"", b"A5A", b"A5" * 255, b"A5" * 256, b"A5" * 257))
-        text = Source(text, ()).with_field(3, 6, new)
+        text = Source(text, ()).with_field(SESSION, 6, new)
     return text
 
 
@@ -501,7 +506,7 @@ def fids_near(dice, source):
 
 def other_home(dice, source):
     """Another folder at the end of the session's line or a file's, or none."""
-    place = dice.pick([3, 3] + source.files() * 2)
+    place = dice.pick([SESSION, SESSION] + source.files() * 2)
     own = source.own_fields(place)
     if dice.chance(0.15):
         return source.with_line(place, b"\t".join(own))
@@ -512,9 +517,9 @@ def other_home(dice, source):
 
 def all_homes(dice, source):
     """Every line that names a folder changed alike: all in the root, all in one folder, or without the field, as in the old form."""
-    new = dice.pick(([], [], [b"3F00"], [b"3F00"], [b"-"], [fids_near(dice, source)], [source.field(3, -1)]))
+    new = dice.pick(([], [], [b"3F00"], [b"3F00"], [b"-"], [fids_near(dice, source)], [source.field(SESSION, -1)]))
     lines = list(source.lines)
-    places = source.files() if dice.chance(0.3) else [3] + source.files()
+    places = source.files() if dice.chance(0.3) else [SESSION] + source.files()
     for place in places:
         lines[place] = b"\t".join(source.own_fields(place) + new)
     if dice.chance(0.5):
@@ -532,7 +537,7 @@ def in_other_form(source, places):
 
 def other_form(dice, source):
     """The whole text in the other form, with the lines of folders or without."""
-    lines = in_other_form(source, [3] + source.files())
+    lines = in_other_form(source, [SESSION] + source.files())
     if dice.chance(0.7):
         lines = [line for place, line in enumerate(lines) if place not in source.folders()]
     return joined(lines)
@@ -541,7 +546,8 @@ def other_form(dice, source):
 def line_of_other_form(dice, source):
     """The session's line alone, all but that, or one file's, in the other form."""
     files = source.files()
-    return joined(in_other_form(source, dice.pick(([3], files, [dice.pick(files)], [3, dice.pick(files)]) if files else ([3],))))
+    return joined(in_other_form(source, dice.pick(
+        ([SESSION], files, [dice.pick(files)], [SESSION, dice.pick(files)]) if files else ([SESSION],))))
 
 
 def another_card(dice, source):
@@ -585,10 +591,10 @@ def added_folder(dice, source):
     count = dice.weighted(((1, 5), (5 - len(source.folders()), 2), (4 - len(source.folders()), 2)))
     for _ in range(max(count, 1)):
         fid = dice.weighted(((any_fid(dice, dice.between(1, 30)), 8), (any_fid(dice, dice.pick((0, 31))), 1), (0x3F00, 1)))
-        line = b"%04X\t%02X" % (fid, dice.weighted(generate.GOOD_RIGHTS))
+        line = b"%04X\t%02X" % (fid, dice.weighted(generate.GOOD_CREATION))
         if dice.chance(0.2):
             line = fids_near(dice, source) + line[4:]
-        first, behind = 4, 4 + len(source.folders())
+        first, behind = SESSION + 1, SESSION + 1 + len(source.folders())
         lines.insert(dice.weighted(((first, 3), (behind, 3), (dice.below(len(lines) + 1), 1), (len(lines), 1))), line)
     return joined(lines)
 
@@ -610,7 +616,7 @@ def moved_folder(dice, source):
         lines.pop(place)
     else:
         line = lines.pop(place)
-        lines.insert(dice.pick((3, len(lines), dice.between(4, len(lines)))), line)
+        lines.insert(dice.pick((SESSION, len(lines), dice.between(SESSION + 1, len(lines)))), line)
     return joined(lines)
 
 
@@ -654,7 +660,7 @@ def foreign_line(dice, source):
 
 def another_start(dice, source):
     """The first lines of another card: its credentials, its session too, or more."""
-    count = dice.pick((1, 2, 3, 3, 3, 4, 5))
+    count = dice.pick((1, 2, 3, 4, 4, 4, 5, 6))
     return joined(source.another(dice).split(b"\n")[:-1][:count] + source.lines[count:])
 
 
@@ -722,6 +728,21 @@ def newline_more(dice, source):
     return joined(source.lines[:place] + [b""] + source.lines[place:])
 
 
+def other_credentials(dice, source):
+    """As before there was a transport key; a credential twice, or in another's place."""
+    lines = list(source.lines)
+    kind = dice.below(4)
+    if kind == 0:
+        lines.pop(SESSION - 1)
+    elif kind == 1:
+        lines.insert(dice.below(SESSION + 1), lines[dice.below(SESSION)])
+    elif kind == 2:
+        lines.insert(dice.below(SESSION), lines.pop(SESSION - 1))
+    else:
+        lines[SESSION - 1] = lines[dice.below(SESSION - 1)]
+    return joined(lines)
+
+
 def cut_off(dice, source):
     """Behind any byte, or behind a line."""
     if dice.chance(0.5):
@@ -731,7 +752,7 @@ def cut_off(dice, source):
 
 def something_behind(dice, source):
     return source.text + dice.pick((bytes((dice.below(256),)), b"\n", b" ", b"\x00", b"-\n", b"\t\n", b"00\n", b"\x1a", source.text,
-                                    source.another(dice), joined(source.lines[4:]), dice.bytes(dice.between(1, 40))))
+                                    source.another(dice), joined(source.lines[SESSION + 1:]), dice.bytes(dice.between(1, 40))))
 
 
 def something_before(dice, source):
@@ -757,7 +778,7 @@ def tries(dice, draft):
 
 
 def held_right(dice, draft):
-    credential = dice.pick(draft.credentials)
+    credential = dice.pick(draft.credentials[:3])
     credential.held = dice.chance(0.8)
     if dice.chance(0.7):
         credential.tries = dice.pick((0, credential.limit - 1, credential.limit, credential.limit))
@@ -796,7 +817,7 @@ def file_folder(dice, draft):
     if not draft.files:
         return
     if not draft.card.folders:
-        draft.add_folder(any_fid(dice, dice.between(1, 30)), dice.weighted(generate.GOOD_RIGHTS))
+        draft.add_folder(any_fid(dice, dice.between(1, 30)), dice.weighted(generate.GOOD_CREATION))
     file, _ = dice.pick(draft.files)
     file.folder = draft.any_folder(dice) if dice.chance(0.9) else cards.Folder(any_fid(dice, dice.between(1, 30)), 0)
     if dice.chance(0.4):
@@ -810,7 +831,7 @@ def folder_fid(dice, draft):
     """A folder with another FID: of a file, of another folder, with low bits at their edges, or any."""
     folders, files = draft.card.folders, [file for file, _ in draft.files]
     if not folders or len(folders) < cards.MOST_FOLDERS and dice.chance(0.5):
-        draft.add_folder(any_fid(dice, dice.between(1, 30)), dice.weighted(generate.GOOD_RIGHTS))
+        draft.add_folder(any_fid(dice, dice.between(1, 30)), dice.weighted(generate.GOOD_CREATION))
     folder = dice.pick(folders)
     here = [file for file in files if file.folder is cards.ROOT]
     fid = dice.weighted((
@@ -824,14 +845,14 @@ def folder_right(dice, draft):
     if not draft.card.folders:
         draft.add_folder(any_fid(dice, dice.between(1, 30)), 0)
     dice.pick(draft.card.folders).right = dice.pick((
-        dice.weighted(generate.GOOD_RIGHTS), dice.weighted(generate.GOOD_RIGHTS), dice.pick(generate.BAD_RIGHTS), dice.below(256)))
+        dice.weighted(generate.GOOD_CREATION), dice.weighted(generate.GOOD_RIGHTS), dice.pick(generate.BAD_CREATION), dice.below(256)))
 
 
 def more_folders(dice, draft):
     """Four folders, or five."""
     count = dice.pick((4, 4, 5, 5, 6))
     while len(draft.card.folders) < count:
-        draft.add_folder(any_fid(dice, dice.between(1, 30)), dice.weighted(generate.GOOD_RIGHTS))
+        draft.add_folder(any_fid(dice, dice.between(1, 30)), dice.weighted(generate.GOOD_CREATION))
 
 
 def same_sfi(dice, draft):
@@ -839,7 +860,7 @@ def same_sfi(dice, draft):
     if not draft.files or len(draft.files) >= cards.MOST_FILES or draft.room() < 2:
         return
     if not draft.card.folders:
-        draft.add_folder(any_fid(dice, dice.between(1, 30)), dice.weighted(generate.GOOD_RIGHTS))
+        draft.add_folder(any_fid(dice, dice.between(1, 30)), dice.weighted(generate.GOOD_CREATION))
     folder = draft.any_folder(dice)
     like = dice.pick([file for file, _ in draft.files] + draft.card.folders).fid
     fid = dice.pick((like, like, like ^ 0x20 << dice.below(11)))
@@ -876,8 +897,8 @@ def waiting(dice, draft):
 
 
 def value(dice, draft):
-    place = dice.below(3)
-    if place == 0:
+    place = dice.pick((0, 1, 1, 2, 2, 3))
+    if place in (0, 3):
         new = dice.bytes(dice.pick((16, 16, 16, 1, 6, 15, 17, 32)))
     else:
         new = bytearray(dice.digits(dice.pick((6, 7, 15, 16, 6, 16, 1, 5, 17, 20))))
@@ -1123,7 +1144,7 @@ TEXT_CHANGES = (
     ("a field added", added_field, 6),
     ("a field removed", removed_field, 6),
     ("a field as another is", changed_field, 12),
-    ("no file, challenge or waiting bytes, in some form", other_none, 8),
+    ("no file, challenge or waiting bytes, in some form", other_none, 12),
     ("another mode", other_mode, 9),
     ("another directory on a line", other_home, 18),
     ("another directory on all lines", all_homes, 6),
@@ -1137,6 +1158,7 @@ TEXT_CHANGES = (
     ("a line moved", moved_line, 6),
     ("a line of another card", foreign_line, 6),
     ("the first lines of another card", another_start, 9),
+    ("credentials missing, twice or elsewhere", other_credentials, 9),
     ("CR before a newline", carriage_return, 3),
     ("lower case", lower_case, 9),
     ("leading zeros", leading_zeros, 6),
@@ -1276,12 +1298,12 @@ def texts_to_convert(dice, count, form, kept):
 
 def random_texts(dice):
     """Bytes that are no text, up to 65,536."""
-    for length in list(range(0, 40)) + [255, 256, 4096, 9401, 9517, 9518, 9519, 16384, 65535, 65536]:
+    for length in list(range(0, 40)) + [255, 256, 4096, 9442, 9558, 9559, 9560, 16384, 65535, 65536]:
         yield dice.bytes(min(length, 4096)).ljust(length, bytes((dice.below(256),)))
         yield bytes([dice.pick(b"\t\n0123456789ABCDEF-") for _ in range(min(length, 4096))]).ljust(length, b"0")
         yield dice.pick((b"\n", b"\t", b"0", b"\x00", b"-")) * length
     longest = edge_cards()[-1]
-    for length in (9519, 10000, 65536):
+    for length in (9560, 10000, 65536):
         yield longest.ljust(length, b"\n")
         yield longest + dice.bytes(length - len(longest))
         yield (longest * 8)[:length]

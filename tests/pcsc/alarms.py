@@ -1,8 +1,10 @@
 #!/usr/bin/env python3
 """tools/alarms with cards in the virtual reader. What it does without one is in tests/alarms."""
 import contextlib
+import glob
 import json
 import os
+import re
 import signal
 import socket
 import subprocess
@@ -12,8 +14,8 @@ import termios
 import threading
 import time
 
-from stack import (ADMIN_PIN, ISSUE_WORDS, PORT, READERS, ROOT, SECONDS, USER_PIN, Scriptor, Terminal, card, card_present, changes, check,
-                   end, is_stopped, issue_line, wait_for_removal, wait_until)
+from stack import (ADMIN_PIN, PORT, READERS, ROOT, SECONDS, TRANSPORT_KEY, USER_PIN, Scriptor, Terminal, card, card_present, changes, check,
+                   code_of, end, is_stopped, issue_line, wait_for_removal, wait_until, with_mode)
 
 RANDOM = "00112233445566778899AABBCCDDEEFF"
 # The device login of FIPS 197's appendix C.1: its key is ISSUE_WORDS', its plaintext the random input.
@@ -55,7 +57,7 @@ def scripted(text, *words, slot=0):
 def prepared(mode, *commands, slot=0):
     """A card on which the device has run the commands."""
     text = "".join(f"CMD\t{command}\t{RANDOM}\n" for command in (*LOGIN, *commands))
-    return scripted(text, *ISSUE_WORDS, str(mode), "--prepare", slot=slot)
+    return scripted(text, *with_mode(mode), "--prepare", slot=slot)
 
 
 def box_card(mode):
@@ -202,6 +204,98 @@ def directories(mode):
         printed("a card that was left in a directory, for certain", rows)
 
 
+OR_A_CODE = "; where the file asks for codes, say --transport-key FILE"
+OTHER_KEY = "00" * 16
+
+
+@contextlib.contextmanager
+def key_file(key, mode=0o600):
+    """The name of a file with a transport key."""
+    with tempfile.NamedTemporaryFile("w", prefix="limpet-key-") as file:
+        file.write(f"{key}\n")
+        file.flush()
+        os.chmod(file.name, mode)
+        yield file.name
+
+
+def coded_to_card(reader, since=0):
+    """The coded commands that the card was sent, and how many challenges it gave."""
+    said = reader.said()[since:]
+    return re.findall("^> (04.*)$", said, re.MULTILINE), len(re.findall("^> 0084", said, re.MULTILINE))
+
+
+def codes(mode):
+    """Alarm files that ask for codes: with the user PIN, alone, for the device; and one that asks for none."""
+    def coded(message):
+        return [LOGIN[0], *(["00C0000010"] if mode else []), message + code_of(RANDOM, message)]
+
+    files = ["80E0A101052E04084401", "00E20000080000000107020001", "00E20000080000000207020002",
+             "80E0A102052E04080404", *coded("04E200000C0000000307020003"),
+             "80E0A103052E04084501", "00E20000080000000407020004",
+             "80E0A104052E04080001", "00E20000080000000507020005",
+             "80E0A105052EFE080401", *(f"00E2000008{number:08X}01010001" for number in range(1, 256))]
+    user, alone, free = table((2, 7, 2, 2), (1, 7, 2, 1)), table((3, 7, 2, 3), file="file A102"), table((5, 7, 2, 5), file="file A104")
+    with prepared(mode, *files) as reader, key_file(TRANSPORT_KEY) as key, key_file(OTHER_KEY) as other:
+        check("codes: all was served", not re.search("^< 6[^1]", reader.said(), re.MULTILINE), reader.said())
+        with_key = ("--transport-key", key)
+        printed("codes: a PIN and a code", user, *with_key, pin="123456")
+        sent, challenges = coded_to_card(reader, reader.said().index("the card is in the reader"))
+        check("codes: each read has a challenge and a code of its own", len(sent) == challenges == len(set(sent)) == 5, sent)
+        check("codes: the card is reset at its end", reader.after_commands() == "reset", reader.said())
+        printed("codes: a code and no PIN", alone + gone(3), *with_key, "--file", "A102")
+        printed("codes: a file that asks for none", free + gone(5), *with_key, "--file", "A104")
+        refused("codes: a file for the device", "it asks for another right, which no PIN gives\n", *with_key, "--file", "A103", "--both",
+                pin=f"{USER_PIN}\n{ADMIN_PIN}\n")
+        refused("codes: a PIN is missing", "the user PIN is needed (6982); give it with --pin-from\n", *with_key)
+        refused("codes: no key, and the PIN alone", f"where it is both PINs say --both{OR_A_CODE}\n", pin="123456")
+        refused("codes: no key and no PIN", f"the user PIN is needed (6982); give it with --pin-from{OR_A_CODE}\n", "--file", "A102")
+        largest = table(*((number, 1, 1, 1) for number in range(255, 1, -1)), file="file A105") + gone(2)
+        printed("codes: the largest file, 254 records", largest, *with_key, "--file", "A105")
+        with open(key, encoding="ascii") as file:
+            ended = subprocess.run(["tools/alarms", "--transport-key", "-", "--file", "A102"], stdin=file, capture_output=True, text=True, timeout=SECONDS)
+        check("codes: the key at standard input", (ended.returncode, ended.stdout, ended.stderr) == (0, alone + gone(3), ""), ended)
+        with key_file(TRANSPORT_KEY.lower(), 0o644) as open_one:
+            got = alarms("--transport-key", open_one, "--file", "A102")
+            warning = f"alarms: warning: {open_one} is open to others (mode 644), and has the transport key as it is; say: chmod 600 {open_one}\n"
+            check("codes: a key that is open to others is warned of", got == (0, alone + gone(3), warning), got)
+        for name, words in (("codes: a wrong key", ("--file", "A102")), ("codes: a wrong key, and the file asks for none", ("--file", "A104"))):
+            since = len(reader.said())
+            refused(name, "wrong code (6988), which has cost a try of the transport key, and nothing more was sent", "--transport-key", other, *words)
+            sent, challenges = coded_to_card(reader, since)
+            check(f"{name}: one code was sent, and no more", len(sent) == challenges == 1, sent)
+            last = re.findall("^> (.*)$", reader.said()[since:], re.MULTILINE)[-1]
+            check(f"{name}: it was the last command", last == sent[0], last)
+        printed("codes: the right key gives the tries back", alone + gone(3), *with_key, "--file", "A102")
+        for left in range(9, -1, -1):
+            refused(f"codes: a wrong key, {left} tries left", "wrong code (6988)", "--transport-key", other, "--file", "A102")
+        blocked = "the transport key is blocked (6983), and nothing brings it back"
+        refused("codes: blocked", blocked, *with_key, "--file", "A102")
+        refused("codes: blocked for all files", blocked, *with_key, "--file", "A104")
+        printed("codes: a file that asks for none is read without them", free + gone(5), "--file", "A104")
+        terminal = Terminal("tools/alarms", "--transport-key", "-")
+        terminal.end()
+        check("codes: a key that would be typed", terminal.text == "alarms: the transport key is in a file: say which with --transport-key\n", terminal.text)
+        commands = "".join(re.findall("^[<>] (.*)$", reader.said(), re.MULTILINE))
+        check("codes: the key itself is never sent", TRANSPORT_KEY not in commands)
+
+
+def codes_listed():
+    """While it reads, the key is in no list of processes and in no environment."""
+    answers = {0xA4: "9000", 0x84: "00" * 16 + "9000", 0xB2: "000000010701000C9000"}
+    secret, seen = os.urandom(16).hex().upper(), []  # a key that no other test has
+
+    def answer(command):
+        if command[1] == 0xB2:
+            for path in glob.glob("/proc/[0-9]*/cmdline") + glob.glob("/proc/[0-9]*/environ"):
+                with contextlib.suppress(OSError), open(path, "rb") as file:
+                    seen.append(secret.encode() in file.read().upper())
+        return bytes.fromhex("6A83" if command[2] > 1 and command[1] == 0xB2 else answers[command[1]])
+
+    with made_up(answer), key_file(secret) as key:
+        printed("codes: a made-up card", table((1, 7, 1, 12)), "--transport-key", key)
+    check("codes: the key is in no list of processes", len(seen) > 20 and not any(seen), len(seen))
+
+
 def both_pins():
     """File A10B asks for both PINs, and A103 for a right that no PIN gives."""
     rows = table((1, 7, 2, 255), file="file A10B")
@@ -212,19 +306,19 @@ def both_pins():
     printed("both PINs, where one is enough", table((1, 7, 2, 12), file="file A10A"), "--file", "A10A", "--both", pin=f"{USER_PIN}\n111111\n")
     refused("both PINs are asked for, and the user PIN is shown",
             "the user PIN does not open the file (6982), which asks for another right: where that is the admin PIN say --admin, where it is"
-            " both PINs say --both\n", *both, pin=two_lines)
-    refused("and the admin PIN is shown", "where that is the user PIN leave out --admin, where it is both PINs say --both\n",
+            f" both PINs say --both{OR_A_CODE}\n", *both, pin=two_lines)
+    refused("and the admin PIN is shown", f"where that is the user PIN leave out --admin, where it is both PINs say --both{OR_A_CODE}\n",
             *both, "--admin", pin=f"{ADMIN_PIN}\n{USER_PIN}\n")
     for name, pin in (("no second line", USER_PIN), ("an empty one", f"{USER_PIN}\n\n")):
         refused(f"both PINs: {name}", "alarms: - has no second line, which is to be the admin PIN\n", *both, "--both", pin=pin)
     refused("both PINs: the second is none", "6 to 16 digits; this one was not sent", *both, "--both", pin=f"{USER_PIN}\n12\n")
     tries("63C5", "the second line is no admin PIN unless --both says so", "00200000")
-    refused("both PINs, and neither opens it", "and both PINs were shown: it asks for another right, which no PIN gives", *never, "--both",
-            pin=two_lines)
+    refused("both PINs, and neither opens it", f"and both PINs were shown: it asks for another right, which no PIN gives{OR_A_CODE}\n",
+            *never, "--both", pin=two_lines)
     terminal = Terminal("tools/alarms", *both)
     terminal.wait_for(r"^user PIN of the card in 'Virtual PCD 00 00' \(3 tries left\): $")
     terminal.type(USER_PIN)
-    terminal.wait_for(r"^alarms: the user PIN is right, and the file asks for more \(6982\); where that is the admin PIN, type it too, else Ctrl-C$")
+    terminal.wait_for(r"^alarms: the user PIN is right, and the file asks for more \(6982\); where that is the admin PIN, type it too, else Ctrl-C" + OR_A_CODE + "$")
     terminal.wait_for(r"^admin PIN of the card in 'Virtual PCD 00 00' \(5 tries left\): $")
     terminal.type(ADMIN_PIN)
     status = terminal.end()
@@ -250,7 +344,7 @@ def pin_files():
         refused("a PIN file without end", "6 to 16 digits; this one was not sent", "--pin-from", "/dev/zero")
         ended = subprocess.run(["bash", "-c", "yes 123456 | tools/alarms --pin-from -"], capture_output=True, text=True, timeout=SECONDS)
         check("one whose first line is a PIN", (ended.returncode, ended.stdout, ended.stderr) == (0, BOX, ""), ended)
-        for words, says in (("", "the user PIN is needed (6982); give it with --pin-from"), ("--pin-from -", "cannot read -: standard input is closed")):
+        for words, says in (("", f"the user PIN is needed (6982); give it with --pin-from{OR_A_CODE}"), ("--pin-from -", "cannot read -: standard input is closed")):
             ended = subprocess.run(["bash", "-c", f"tools/alarms {words} <&-"], capture_output=True, text=True, timeout=SECONDS)
             check(f"standard input is closed: {words}", (ended.returncode, ended.stdout, ended.stderr) == (1, "", f"alarms: {says}\n"), ended)
         ended = subprocess.run(["bash", "-c", "echo 123456 | tools/alarms --pin-from - 2>&-"], capture_output=True, text=True, timeout=SECONDS)
@@ -572,6 +666,8 @@ for each in (0, 1):
     box(each)
     kinds_of_file(each)
     directories(each)
+    codes(each)
+codes_listed()
 pin_files()
 terminals()
 which_card()

@@ -1,10 +1,12 @@
 #!/usr/bin/env python3
 """Runs tools/alarms with some of it altered: altered.py ALTERATIONS WORDS..., where ALTERATIONS is JSON.
 
-ANSWER_SECONDS, CARD_SECONDS: in place of its own.
+ANSWER_SECONDS, CARD_SECONDS, CODED_SECONDS: in place of its own.
 typed_at: the number of a prompt; behind that one it goes on only once a line is typed.
 readers: with a library in place of libpcsclite that has these readers, a list of names in hex and states. No card is real then.
-seeds: first and last. It is run once for each, on a card that answers at random; a line of output tells each status.
+challenges: such a card has files, and gives challenges; all else it answers at random.
+seeds: first and last. It is run once for each, on a card that answers at random; a line of output tells each status, and one more where
+anything was sent behind a wrong code (6988).
 slow: seconds that such a card takes for each answer; it has alarms without end then.
 """
 import importlib.machinery
@@ -18,7 +20,7 @@ import sys
 import time
 
 TOOL = os.path.join(os.path.dirname(os.path.dirname(os.path.dirname(os.path.abspath(__file__)))), "tools", "alarms")
-WORDS = ["6108", "6100", "6982", "63C3", "6A83", "6A82", "6983", "6F00", "6C08", "1234"]
+WORDS = ["6108", "6100", "6982", "63C3", "6A83", "6A82", "6983", "6F00", "6C08", "1234", "6988", "6984"]
 
 
 def tool():
@@ -48,6 +50,7 @@ class Library:
     def __init__(self, readers, answer):
         self.readers = [(bytes.fromhex(name), state) for name, state in readers]
         self.answer = answer
+        self.wrong_code = False  # one was sent
 
     def SCardEstablishContext(self, *_):
         return 0
@@ -73,18 +76,26 @@ class Library:
         return 0
 
     def SCardTransmit(self, _, __, command, ___, ____, room, length):
+        if self.wrong_code:
+            print("sent behind a wrong code", flush=True)
         answer = self.answer(command)
+        self.wrong_code = command[0] == 0x04 and answer[-2:] == b"\x69\x88"
         room[: len(answer)] = answer
         length._obj.value = len(answer)
         return 0
 
 
-def at_random(seed):
+SELECT, GET_CHALLENGE = 0xA4, 0x84
+
+
+def at_random(seed, challenges):
     """A card that answers anything, of a few status words. As with vpcd the call never comes back where the answer has no byte."""
     chance = random.Random(seed)
     words = ["9000", *chance.sample(WORDS, 2)]
 
-    def answer(_):
+    def answer(command):
+        if challenges and command[1] in (SELECT, GET_CHALLENGE):
+            return chance.randbytes(16 if command[1] == GET_CHALLENGE else 0) + b"\x90\x00"
         data = chance.randbytes(chance.choice([0, 8, 8, 8, 9, 256]))
         answer = data + bytes.fromhex(chance.choice(words))
         answer = chance.choice([answer] * 20 + [b"", answer[:1]])
@@ -98,7 +109,9 @@ def at_random(seed):
 def slowly(seconds):
     def answer(command):
         time.sleep(seconds)
-        return b"\x90\x00" if command[1] == 0xA4 else bytes.fromhex(f"{1000 - command[2]:08X}010200039000")
+        if command[1] in (SELECT, GET_CHALLENGE):
+            return bytes(16 if command[1] == GET_CHALLENGE else 0) + b"\x90\x00"
+        return bytes.fromhex(f"{1000 - command[2]:08X}010200039000")
 
     return answer
 
@@ -106,13 +119,13 @@ def slowly(seconds):
 alterations = json.loads(sys.argv[1])
 alarms = tool()
 sys.argv = [TOOL, *sys.argv[2:]]
-for name in ("ANSWER_SECONDS", "CARD_SECONDS"):
+for name in ("ANSWER_SECONDS", "CARD_SECONDS", "CODED_SECONDS"):
     setattr(alarms, name, alterations.get(name, getattr(alarms, name)))
 if "typed_at" in alterations:
     wait_at(alterations["typed_at"])
 if "seeds" in alterations:
     for seed in range(*alterations["seeds"]):
-        alarms.ctypes.CDLL = lambda _: Library(alterations["readers"], at_random(seed))
+        alarms.ctypes.CDLL = lambda _: Library(alterations["readers"], at_random(seed, "challenges" in alterations))
         print(f"seed {seed}: status {alarms.main()}", flush=True)
     sys.exit()
 if "readers" in alterations:

@@ -8,8 +8,8 @@ import stat
 import subprocess
 import tempfile
 
-from stack import (ISSUE_WORDS, ROOT, SECONDS, OpenscTool, Scriptor, Terminal, card, card_present, check, cryptogram, end,
-                   wait_until)
+from stack import (ROOT, SECONDS, OpenscTool, Scriptor, Terminal, card, card_present, check, cryptogram, end,
+                   wait_until, with_mode)
 
 RIGHT_PIN, WRONG_PIN, QUERY = "0020000106313233343536", "0020000106313131313131", "00200001"
 NEW_FILE = "80E0A105052800010000"
@@ -112,7 +112,7 @@ def beside_the_reader(path):
 
 def killed_while_data_wait(path):
     """A card of mode 1, made by tools/card: its mode is kept, and what waits is not."""
-    status, out, err = tool("tools/card", "new", path, *ISSUE_WORDS, "1")
+    status, out, err = tool("tools/card", "new", path, *with_mode(1))
     check("tools/card makes a card of mode 1", (status, err) == (0, ""), (status, out, err))
     for turn in ("first", "second"):
         with card("--card", path) as reader:

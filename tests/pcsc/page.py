@@ -1,10 +1,11 @@
 #!/usr/bin/env python3
 """docs/STANDBY.md, ELECTRICIAN.md and OFFICE.md: each transcript is typed at a terminal, in order, and has to come out as the page
-has it.
+has it. So has the session with codes of docs/COMMANDS.md, but for challenges and codes: they are others each time.
 
 A transcript is a block marked console. A line with $ is typed at the shell. Below it a command in hex, reset and exit are typed
 to scriptor, each when the one before is answered; the rest is what the terminal shows. What is typed without being shown stands
-in a remark before the block, and mode 1 where the card is one of mode 1. Blanks at the end of a line do not count.
+in a remark before the block, and mode 1 where the card is one of mode 1, or bus where it is that of examples/bus.script. Blanks at the
+end of a line do not count.
 
 The card of mode 1 is made as the page says. So is one with C2 for its alarms, and each PIN opens it.
 
@@ -18,10 +19,10 @@ import re
 import subprocess
 import tempfile
 
-from stack import ROOT, SECONDS, OpenscTool, Scriptor, Terminal, card, card_present, check, end, wait_until
+from stack import ROOT, SECONDS, TRANSPORT_KEY, OpenscTool, Scriptor, Terminal, card, card_present, check, code_of, end, wait_until
 
 PAGES = ("STANDBY", "ELECTRICIAN", "OFFICE")
-BLOCK = re.compile(r"(?:<!-- (mode 1)?(?:, )?(?:typed: (\S+))? -->\n)?```console\n(.*?)```\n", re.DOTALL)
+BLOCK = re.compile(r"(?:<!-- (mode 1|bus)?(?:, )?(?:typed: (\S+))? -->\n)?```console\n(.*?)```\n", re.DOTALL)
 TYPED = re.compile(r"[0-9A-F]{8,}|reset|exit")
 
 
@@ -122,13 +123,54 @@ def transcripts(mode, box, *names):
     """The transcripts of the pages, all on one card."""
     with box as reader:
         answers = re.findall("^< (.*)$", reader.said().partition("limpet-reader: ")[0], re.MULTILINE)
-        first = "6110" if mode else "00112233445566778899AABBCCDDEEFF9000"  # in mode 1 the challenge waits
-        check(f"the script of the box is served throughout {mode}", answers == [first] + ["9000"] * 11, answers)
+        first = "6110" if mode == "mode 1" else "00112233445566778899AABBCCDDEEFF9000"  # in mode 1 the challenge waits
+        if mode != "bus":
+            check(f"the script of the box is served throughout {mode}", answers == [first] + ["9000"] * 11, answers)
         for name in names:
             for number, (of_mode, hidden, block) in enumerate(blocks[name], 1):
                 for command, lines in calls(block) if of_mode == mode else ():
                     got = seen(command, lines, hidden)
                     check(f"{name}, transcript {number}, {command}", got == lines, first_difference(lines, got))
+
+
+def coded_session():
+    """The session of docs/COMMANDS.md. Where the code of a line is the right one for the page's challenge, by openssl, the one for our
+    challenge is typed; where it is wrong it is typed as it stands."""
+    text = text_of("COMMANDS")
+    block, = re.findall(r"^```session\n(.*?)^```$", text, re.DOTALL | re.MULTILINE)
+    (command, lines), = calls(block)
+    worked_out = set(re.findall(r"^\$ code '(.*?)' '(.*?)'$", text, re.MULTILINE))
+    here = {}  # what there is in place of the page's challenges, with their status word, and coded commands
+    wrong, challenges = 0, ("", "")  # the page's and ours
+    with card("examples/bus.script"):
+        terminal = Terminal(command)
+        terminal.wait_for("^Reading commands from STDIN\n")
+        for at, line in enumerate(lines):
+            if not TYPED.fullmatch(line):
+                continue
+            if line.startswith("04") and line not in here:
+                message = line[: 10 + 2 * (int(line[8:10], 16) - 4)]
+                here[line] = line
+                if line[len(message) :][:8] == code_of(challenges[0], message):
+                    here[line] = message + code_of(challenges[1], message) + line[len(message) + 8 :]
+                    spaced = tuple(" ".join(part[place : place + 2] for place in range(0, len(part), 2)) for part in (challenges[0], message))
+                    check(f"the page works out the code of {message}", spaced in worked_out, spaced)
+                else:
+                    wrong += 1
+            terminal.type(here.get(line, line))
+            if line == "exit":
+                break
+            answer = "".join(terminal.wait_for(r"^< ([^:]*):.*\n")[1].split())
+            if line.startswith("0084"):
+                due = "".join(" ".join(lines[at + 2 :]).partition(":")[0].split()[1:])
+                check(f"{line}: a challenge of that length", len(answer) == len(due) and answer.endswith("9000"), answer)
+                here[due], challenges = answer, (due[:-4], answer[:-4])
+        terminal.end()
+    check("the session has a wrong code", wrong == 1, wrong)
+    got = "".join(terminal.text.split())
+    for page_has, ours in here.items():
+        got = got.replace(ours, page_has)
+    check("COMMANDS, the session", got == "".join("".join(lines).split()), terminal.text)
 
 
 def alarms_with(pin, *words):
@@ -208,7 +250,13 @@ status_words()
 service()
 transcripts("", card("examples/box.script"), "STANDBY", "OFFICE")  # the office opens what the standby phone has blocked
 transcripts("", card("examples/box.script"), "ELECTRICIAN")
-transcripts("mode 1", changed_box("board", "\t123456\t3\t1\n"), *PAGES)
+transcripts("mode 1", changed_box("board", "\t123456\t3\t1\t"), *PAGES)
+with tempfile.TemporaryDirectory(prefix="limpet-home-") as home:  # the page has the key there
+    with open(os.path.join(home, "box.key"), "w", encoding="ascii", opener=lambda name, flags: os.open(name, flags, 0o600)) as key_file:
+        key_file.write(f"{TRANSPORT_KEY}\n")
+    os.environ["HOME"] = home
+    transcripts("bus", card("examples/bus.script"), *PAGES)
+coded_session()
 either_pin()
 programs()
 end()

@@ -417,7 +417,7 @@ def main():
         by_opensc_tool(mode)
     with card(*ISSUE_WORDS) as reader:
         rights_between_programs(reader)
-    with card(KEY, "128", ADMIN_PIN, "5", USER_PIN, "16"):
+    with card(KEY, "128", ADMIN_PIN, "5", USER_PIN, "16", *ISSUE_WORDS[6:]):
         client = Scriptor()
         many_tries(Asking(client))
         client.end()

@@ -25,8 +25,8 @@ BEFORE_WORD = 3  # seconds for which the reader waits for vpcd before it says th
 NOT_TAKEN = ("limpet-reader: vpcd has not taken the card yet: is another card in this reader? "
              "End its reader/run, or give this one another port with --port\n")
 
-KEY, ADMIN_PIN, USER_PIN = "000102030405060708090A0B0C0D0E0F", "87654321", "123456"
-ISSUE_WORDS = [KEY, "128", ADMIN_PIN, "5", USER_PIN, "3"]  # without a mode, which is mode 0
+KEY, ADMIN_PIN, USER_PIN, TRANSPORT_KEY = "000102030405060708090A0B0C0D0E0F", "87654321", "123456", "101112131415161718191A1B1C1D1E1F"
+ISSUE_WORDS = [KEY, "128", ADMIN_PIN, "5", USER_PIN, "3", TRANSPORT_KEY, "10"]  # without a mode, which is mode 0
 
 passed = failed = 0
 
@@ -53,8 +53,13 @@ def end():
     sys.exit(failed > 0)
 
 
+def with_mode(mode):
+    """ISSUE_WORDS and a mode."""
+    return [*ISSUE_WORDS[:6], str(mode), *ISSUE_WORDS[6:]]
+
+
 def issue_line(mode=0):
-    return "\t".join(["ISSUE", *ISSUE_WORDS, str(mode)])
+    return "\t".join(["ISSUE", *with_mode(mode)])
 
 
 def wait_until(true, what):
@@ -76,6 +81,15 @@ def cryptogram(challenge):
     block = bytes.fromhex(challenge).ljust(16, b"\0")
     command = ["openssl", "enc", "-aes-128-ecb", "-nopad", "-K", KEY]
     return subprocess.run(command, input=block, capture_output=True, check=True).stdout.hex().upper()
+
+
+def code_of(challenge, message, key=TRANSPORT_KEY):
+    """The code of a command under the transport key, by openssl: the first four bytes of the last block of AES-128 in CBC mode, over
+    the message padded by 80 and 00, from the challenge filled with 00 on."""
+    padded = bytes.fromhex(message + "80")
+    command = ["openssl", "enc", "-aes-128-cbc", "-nopad", "-K", key, "-iv", challenge.ljust(32, "0")]
+    got = subprocess.run(command, input=padded + bytes(-len(padded) % 16), capture_output=True, check=True).stdout
+    return got[-16:][:4].hex().upper()
 
 
 # ---- the reader

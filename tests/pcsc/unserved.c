@@ -16,10 +16,12 @@ size_t limpet_card_size(void)
 uint8_t limpet_issue(struct limpet_card *card, uint8_t *area, size_t area_len,
                      const uint8_t *key, size_t key_len, uint16_t device_limit,
                      const uint8_t *admin_pin, size_t admin_pin_len, uint16_t admin_limit,
-                     const uint8_t *user_pin, size_t user_pin_len, uint16_t user_limit, uint16_t mode)
+                     const uint8_t *user_pin, size_t user_pin_len, uint16_t user_limit, uint16_t mode,
+                     const uint8_t *transport_key, size_t transport_key_len, uint16_t transport_limit)
 {
     (void)card, (void)area, (void)area_len, (void)key, (void)key_len, (void)device_limit;
     (void)admin_pin, (void)admin_pin_len, (void)admin_limit, (void)user_pin, (void)user_pin_len, (void)user_limit, (void)mode;
+    (void)transport_key, (void)transport_key_len, (void)transport_limit;
     return getenv("REFUSES_ISSUE") == NULL ? LIMPET_OK : LIMPET_BAD_ISSUE;
 }
 

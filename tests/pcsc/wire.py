@@ -14,8 +14,8 @@ import time
 from unittest import mock
 
 from mounts import left_out, mounted
-from stack import (ADMIN_PIN, BEFORE_WORD, ISSUE_WORDS, KEY, NOT_TAKEN, READER, ROOT, SECONDS, UNSERVED, USER_PIN, X86, Reader,
-                   as_if_at_once, check, end, issue_line, wait_until)
+from stack import (ADMIN_PIN, BEFORE_WORD, ISSUE_WORDS, KEY, NOT_TAKEN, READER, ROOT, SECONDS, TRANSPORT_KEY, UNSERVED, USER_PIN,
+                   X86, Reader, as_if_at_once, check, code_of, end, issue_line, wait_until, with_mode)
 
 DISK = os.path.join(ROOT, "target", "reader", "disk")  # the reader over disk.c
 OFF, ON, RESET, GET_ATR = (bytes([code]) for code in (0, 1, 2, 4))
@@ -51,14 +51,14 @@ def arguments():
         front = subprocess.run([os.path.join(ROOT, "reader", "run"), option], capture_output=True, text=True, timeout=SECONDS)
         check(f"reader/run {option} is the program's", (front.returncode, front.stdout, front.stderr) == (0, out, ""))
     synopsis = out.partition("\n\n")[0] + "\n"
-    check("the usage is short", synopsis.count("\n") == 3, synopsis)
+    check("the usage is short", synopsis.count("\n") == 4, synopsis)
     mode, port = "{} is not a mode: --mode takes 0 or 1".format, "{} is not a port: --port takes 1 to 65535".format
-    words_are = "{} words are neither a script nor the 6 or 7 values of an issue".format
+    words_are = "{} words are neither a script nor the 8 or 9 values of an issue".format
     value = "option '{}' requires an argument".format
     for why, *words in (
         ("nothing says which card: give a script, the values of an issue, or a card file with --card",),
-        (words_are(2), "a", "b"), (words_are(5), *ISSUE_WORDS[:5]), (words_are(8), *ISSUE_WORDS, "0", "x"),
-        (words_are(2), "--card", "x", "a", "b"), (words_are(8), "--card", "x", *ISSUE_WORDS, "0", "x"),
+        (words_are(2), "a", "b"), (words_are(6), *ISSUE_WORDS[:6]), (words_are(7), *with_mode(0)[:7]), (words_are(10), *with_mode(0), "x"),
+        (words_are(2), "--card", "x", "a", "b"), (words_are(10), "--card", "x", *with_mode(0), "x"),
         (port("0"), "--port", "0", "x"), (port("65536"), "--port", "65536", "x"), (port("7x"), "--port", "7x", "x"),
         (port("-7"), "--port", "-7", "x"), (mode("2"), "--mode", "2", "x"), (mode("01"), "--mode", "01", "x"),
         (mode(""), "--mode", "", "x"), (value("--port"), "--port"), (value("--card"), "--card"), (value("--mode"), "--mode"),
@@ -70,16 +70,22 @@ def arguments():
     refused("a file that is not there", 1, "cannot read none: No such file", "none")
     refused("a folder", 1, "cannot read tests: Is a directory", "tests")
     bad = "limpet-reader: no card: the {}\n".format
-    refused("a PIN of five digits", 1, bad("user PIN is not 6 to 16 digits"), *ISSUE_WORDS[:4], "12345", "3")
-    refused("a limit of 129", 1, bad("user PIN's limit is not 1 to 128"), *ISSUE_WORDS[:5], "129")
-    refused("a limit of 0", 1, bad("user PIN's limit is not 1 to 128"), *ISSUE_WORDS[:5], "0")
-    refused("a short key", 1, bad("device key is not 16 bytes"), "00", *ISSUE_WORDS[1:])
-    refused("a key in lower case", 1, "key is not upper-case hex", "0a" * 16, *ISSUE_WORDS[1:])
-    refused("a limit that is no number", 1, "a limit is not a number", *ISSUE_WORDS[:5], "03")
+
+    def bad_value(name, says, place, value):
+        refused(name, 1, says, *ISSUE_WORDS[:place], value, *ISSUE_WORDS[place + 1 :])
+
+    bad_value("a PIN of five digits", bad("user PIN is not 6 to 16 digits"), 4, "12345")
+    for who, key, limit in (("device key", 0, 1), ("transport key", 6, 7)):
+        bad_value(f"a short {who}", bad(f"{who} is not 16 bytes"), key, "00")
+        bad_value(f"a {who} in lower case", bad(f"{who} is not upper-case hex"), key, "0a" * 16)
+        bad_value(f"a limit of 129 of the {who}", bad(f"{who}'s limit is not 1 to 128"), limit, "129")
+    bad_value("a limit of 129", bad("user PIN's limit is not 1 to 128"), 5, "129")
+    bad_value("a limit of 0", bad("user PIN's limit is not 1 to 128"), 5, "0")
+    bad_value("a limit that is no number", "limpet-reader: no card: a limit is not a number\n", 5, "03")
     for mode in ("2", "65535"):
-        refused(f"mode {mode}", 1, bad("mode is not 0 or 1"), *ISSUE_WORDS, mode)
+        refused(f"mode {mode}", 1, bad("mode is not 0 or 1"), *with_mode(mode))
     for mode in ("01", "65536", "x", ""):
-        refused(f"mode {mode!r}", 1, "the mode is not a number", *ISSUE_WORDS, mode)
+        refused(f"mode {mode!r}", 1, "the mode is not a number", *with_mode(mode))
     with socket.socket() as unused:
         unused.bind(("127.0.0.1", 0))  # a port that is taken, and where nobody listens
         port = unused.getsockname()[1]
@@ -91,7 +97,9 @@ def scripts():
     random = b"00112233445566778899AABBCCDDEEFF"
     refused_script("an empty script", "no ISSUE line", b"")
     refused_script("a script without ISSUE", "line 1: the first line is to be an ISSUE", b"RESET\n")
-    refused_script("an ISSUE line without a mode", "line 1: the first line is to be an ISSUE", issue[:-2])
+    refused_script("an ISSUE line without a mode", "line 1: the first line is to be an ISSUE", b"\t".join([b"ISSUE", *map(str.encode, ISSUE_WORDS)]))
+    refused_script("an ISSUE line without a transport key", "line 1: the first line is to be an ISSUE", issue.rsplit(b"\t", 2)[0])
+    refused_script("an ISSUE line with a short transport key", "line 1: the transport key is not 16 bytes\n", issue.replace(b"1E1F\t", b"1E\t"))
     refused_script("an ISSUE line of mode 2", "line 1: the mode is not 0 or 1\n", issue_line(2).encode())
     refused_script("an ISSUE line of mode 01", "line 1: the mode is not a number", issue_line("01").encode())
     refused_script("a second ISSUE", "line 2: a card has been issued already", issue + b"\n" + issue)
@@ -230,16 +238,16 @@ def mode_asked():
     def differs(issued, asked):
         return f"limpet-reader: the card was issued with mode {issued}, and --mode asks for {asked}\n"
 
-    refused("--mode 0, and the words say 1", 1, differs(1, 0), "--mode", "0", *ISSUE_WORDS, "1")
-    refused("--mode 1, and the words say 0", 1, differs(0, 1), "--mode", "1", *ISSUE_WORDS, "0")
+    refused("--mode 0, and the words say 1", 1, differs(1, 0), "--mode", "0", *with_mode(1))
+    refused("--mode 1, and the words say 0", 1, differs(0, 1), "--mode", "1", *with_mode(0))
     refused_script("--mode 1, and the script says 0", differs(0, 1), issue_line(0).encode(), "--mode", "1", "SCRIPT")
     refused_script("--mode 0, and the script says 1", differs(1, 0), issue_line(1).encode(), "--mode", "0", "SCRIPT")
     for mode, answer in ((0, "6D00"), (1, "6985")):  # nothing waits; and in mode 0 the list does not have it
         with tempfile.NamedTemporaryFile("w", prefix="limpet-script-") as script:
             script.write(issue_line(mode))
             script.flush()
-            for words in (["--mode", str(mode), *ISSUE_WORDS], [*ISSUE_WORDS, str(mode)], [script.name],
-                          ["--mode", str(mode), *ISSUE_WORDS, str(mode)], ["--mode", str(mode), script.name]):
+            for words in (["--mode", str(mode), *ISSUE_WORDS], with_mode(mode), [script.name],
+                          ["--mode", str(mode), *with_mode(mode)], ["--mode", str(mode), script.name]):
                 with connected(*words) as (line, _):
                     got = line.ask(GET_RESPONSE)
                     check(f"a card of mode {mode}: {' '.join(words)}", got == answer, got)
@@ -249,7 +257,7 @@ def mode_asked():
 
 def later():
     """A card of mode 1: T=0 in its answer to reset, and data that are fetched. What comes and goes is not touched on the way."""
-    with connected(*ISSUE_WORDS, "1") as (line, reader):
+    with connected(*with_mode(1)) as (line, reader):
         check("mode 1: the answer to reset", line.ask(GET_ATR) == "3B0A80711656" + b"LIMPET".hex().upper())
         check("mode 1: a query", line.ask(QUERY) == "63C3")
         check("mode 1: a challenge waits", line.ask(bytes.fromhex("0084000010")) == "6110")
@@ -331,10 +339,11 @@ def hex_of(pin):
 ROOT_FID = "3F00"
 
 
-def new_card(tries=3, session="0\t0\t0\t-\t-\t0\t-", *rest):
-    """The text of a card that was issued with ISSUE_WORDS. rest: the current directory, where it is not the root."""
+def new_card(tries=3, session="0\t0\t0\t-\t-\t0\t-", *rest, codes=10):
+    """The text of a card that was issued with ISSUE_WORDS. rest: the current directory, where it is not the root. codes: tries left of the
+    transport key."""
     session = "\t".join([session, *(rest or [ROOT_FID])])
-    return f"{KEY}\t128\t128\n{hex_of(ADMIN_PIN)}\t5\t5\n{hex_of(USER_PIN)}\t3\t{tries}\n{session}\n"
+    return f"{KEY}\t128\t128\n{hex_of(ADMIN_PIN)}\t5\t5\n{hex_of(USER_PIN)}\t3\t{tries}\n{TRANSPORT_KEY}\t10\t{codes}\n{session}\n"
 
 
 class Kept:
@@ -377,7 +386,7 @@ def made_or_loaded():
         none = f"there is no file {kept.path}, and nothing that says which card to make"
         refused("--card without a file", 1, none, "--card", kept.path)
         refused("--card with a bad script", 1, "cannot read none: No such file", "--card", kept.path, "none")
-        refused("--card with bad values", 1, "the user PIN's limit is not 1 to 128", "--card", kept.path, *ISSUE_WORDS[:5], "0")
+        refused("--card with bad values", 1, "the user PIN's limit is not 1 to 128", "--card", kept.path, *ISSUE_WORDS[:5], "0", *ISSUE_WORDS[6:])
         check("these make no file", os.listdir(kept.folder) == [], os.listdir(kept.folder))
         refused("--card -", 1, "limpet-reader: CARD has to be a file's name: - is for scripts alone\n", "--card", "-", *ISSUE_WORDS)
         refused("--card with a folder", 1, "is a folder, and a card is a file", "--card", kept.folder, *ISSUE_WORDS)
@@ -389,7 +398,7 @@ def made_or_loaded():
             check("a new card is in its file", kept.read() == new_card() and os.listdir(kept.folder) == ["box.card"])
             check("for its owner alone", stat.S_IMODE(os.stat(kept.path).st_mode) == 0o600)
             check("a wrong PIN", line.ask(WRONG_PIN) == "63C2")
-        others = [KEY, "128", ADMIN_PIN, "5", "999999", "9"]
+        others = [KEY, "128", ADMIN_PIN, "5", "999999", "9", KEY, "1"]
         with tempfile.NamedTemporaryFile("w", prefix="limpet-script-") as script:
             script.write("no script at all")
             script.flush()
@@ -452,6 +461,55 @@ def kept_later():
             before = kept.read()
             refused(f"--card with a file from before {name}", 1, why, "--card", kept.path)
             check(f"a file from before {name} is left as it is", kept.read() == before, kept.read())
+
+
+    without_key = new_card().replace(f"{TRANSPORT_KEY}\t10\t10\n", "")
+    with kept_card(without_key) as kept:
+        refused("--card with a file from before the transport keys", 1, "is a card of before version 11, and has no transport key", "--card", kept.path)
+        check("a file from before the transport keys is left as it is", kept.read() == without_key, kept.read())
+
+
+def kept_codes():
+    """A code is a presentation of the transport key: its tries are in the file before the answer, also after a read."""
+    with kept_card() as kept, tempfile.NamedTemporaryFile("w", prefix="limpet-script-") as script:
+        script.write(lines_of(*LOGIN, "80E0A102052800020404"))
+        script.flush()
+        read = "04B0820004"
+
+        def due(codes, contents="0000"):
+            return new_card(codes=codes) + f"A102\t2800020404\t0\t0\t{ROOT_FID}\n{contents}\n"
+
+        with connected("--card", kept.path, "--prepare", script.name, *ISSUE_WORDS) as (line, _):
+            def challenge():
+                return line.ask(bytes.fromhex("0084000008"))[:-4]
+
+            def coded(message, le=""):
+                return line.ask(bytes.fromhex(message + code_of(challenge(), message) + le))
+
+            check("codes: a new card", kept.read() == due(10), kept.read())
+            check("codes: without one", line.ask(bytes.fromhex("00B0820002")) == "6982" and kept.read() == due(10))
+            for left in (9, 8):
+                challenge()
+                wrong = line.ask(bytes.fromhex(read + "00000000" + "02"))
+                check(f"codes: a wrong one leaves {left} tries, and they are stored", wrong == "6988" and kept.read() == due(left), kept.read())
+            check("codes: no challenge changes nothing", line.ask(bytes.fromhex(read + "00000000" + "02")) == "6984" and kept.read() == due(8))
+            got = coded(read, "02")
+            check("codes: a right one gives all back, and that is stored", got == "00009000" and kept.read() == due(10), (got, kept.read()))
+            before = kept.which()
+            got = coded(read, "01")
+            check("codes: another right one changes nothing that lasts", got == "009000" and kept.read() == due(10), got)
+            check("codes: a challenge is not stored", challenge() != "" and kept.read() == due(10))
+            got = coded("04D6820006ABCD")
+            check("codes: an update", got == "9000" and kept.read() == due(10, "ABCD") and kept.which() != before, (got, kept.read()))
+        with connected("--card", kept.path) as (line, _):
+            for _ in range(10):
+                line.ask(bytes.fromhex("0084000008"))
+                line.ask(bytes.fromhex(read + "00000000" + "02"))
+            check("codes: blocked, and stored", kept.read() == due(0, "ABCD"), kept.read())
+        with connected("--card", kept.path) as (line, _):
+            challenge = line.ask(bytes.fromhex("0084000008"))[:-4]
+            got = line.ask(bytes.fromhex(read + code_of(challenge, read) + "02"))
+            check("codes: a reset and another reader do not bring it back", got == "6983" and kept.read() == due(0, "ABCD"), got)
 
 
 def kept_in_a_directory():
@@ -652,6 +710,6 @@ def killed_at_random():
 
 
 for test in (arguments, scripts, messages, taken, broken, mode_asked, later, prepared, refused_lines, unserved, made_or_loaded,
-             kept_later, kept_in_a_directory, stored_before_the_answer, not_stored, each_call_fails, one_at_a_time, killed_at_random):
+             kept_later, kept_codes, kept_in_a_directory, stored_before_the_answer, not_stored, each_call_fails, one_at_a_time, killed_at_random):
     test()
 end()

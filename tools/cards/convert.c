@@ -367,10 +367,10 @@ static void warn_of_others(const struct shelf *s)
             still = row;
     }
     if (were > 1)
-        say("warning: %s was open to others (mode %03o), and so were %zu more; they have the key and the PINs as they are",
+        say("warning: %s was open to others (mode %03o), and so were %zu more; they have the keys and the PINs as they are",
             shown(first), first->mode, were - 1);
     else if (were == 1)
-        say("warning: %s was open to others (mode %03o), and has the key and the PINs as they are", shown(first), first->mode);
+        say("warning: %s was open to others (mode %03o), and has the keys and the PINs as they are", shown(first), first->mode);
     if (are > 1)
         say("warning: %s still is, and so are %zu more; say of each: chmod 600 %s", shown(still), are - 1, shown(still));
     else if (are == 1)

@@ -92,7 +92,7 @@ static bool fid_of(struct bytes field, int *fid)
 
 const char *credential_name(size_t credential)
 {
-    static const char *const names[CREDENTIALS] = { "device key", "admin PIN", "user PIN" };
+    static const char *const names[CREDENTIALS] = { "device key", "admin PIN", "user PIN", "transport key" };
     return names[credential];
 }
 
@@ -115,12 +115,23 @@ static bool is_value(struct bytes field, bool key)
     return good;
 }
 
+/* Before version 11 the session's line stood in the place of the transport key's. */
+static bool is_of_this_version(struct reading *r, size_t number)
+{
+    if (number == TRANSPORT_KEY && (r->count == SESSION_FIELDS || r->count == OLD_SESSION_FIELDS))
+        return fail(r, "it is the session's: the file is of before version 11, and has no transport key; put a line with one before "
+                       "this, 32 hex digits, limit and tries left, parted by tabs");
+    if (number == TRANSPORT_KEY && r->count == SESSION_FIELDS_OF_6_AND_7)
+        return fail(r, "it has 5 fields and not 3: the file may be one of version 6 or 7, which this version cannot read");
+    return true;
+}
+
 static bool read_credential(struct reading *r, size_t number)
 {
     struct form_credential *c = &r->form->credentials[number];
-    bool key = number == DEVICE_KEY;
+    bool key = number == DEVICE_KEY || number == TRANSPORT_KEY;
 
-    if (!next_line(r, credential_name(number), CREDENTIAL_FIELDS))
+    if (!take_line(r, credential_name(number)) || !is_of_this_version(r, number) || !has_fields(r, CREDENTIAL_FIELDS))
         return false;
     if (!is_value(r->fields[0], key))
         return fail(r, key ? "the key is not 16 bytes in upper-case hex"
@@ -134,7 +145,7 @@ static bool read_credential(struct reading *r, size_t number)
 
 static bool read_rights(struct reading *r)
 {
-    for (size_t i = 0; i < CREDENTIALS; i++) {
+    for (size_t i = 0; i < RIGHTS; i++) {
         struct form_credential *c = &r->form->credentials[i];
         uint16_t held;
 
@@ -176,11 +187,9 @@ static bool read_response(struct reading *r)
     return r->form->mode == 1 || r->form->waiting == 0 || fail(r, "bytes wait, and the mode is 0");
 }
 
-/* Their number tells the form. Of an earlier version nothing is known but that its session had so many. */
+/* Their number tells the form. */
 static bool has_session_fields(struct reading *r)
 {
-    if (r->count == SESSION_FIELDS_OF_6_AND_7)
-        return fail(r, "it has 5 fields and not 8: the file may be one of version 6 or 7, which this version cannot read");
     r->form->form = r->count == OLD_SESSION_FIELDS ? OLD_FORM : NEW_FORM;
     return r->form->form == OLD_FORM || has_fields(r, SESSION_FIELDS);
 }
@@ -215,6 +224,12 @@ static bool good_low_bits(int fid)
 static bool good_right(uint8_t right)
 {
     return right == FOR_NOBODY || ((right & ~(FOR_ADMIN | FOR_USER | FOR_DEVICE | ANY_ONE)) == 0 && right != ANY_ONE);
+}
+
+/* A code is asked for beside the rights, and is none of those to choose from. */
+static bool good_file_right(uint8_t right)
+{
+    return right == FOR_NOBODY || good_right(right & (uint8_t)~WITH_CODE);
 }
 
 /* Among those that were read before. */
@@ -340,8 +355,8 @@ static const char *wrong_file(const struct form *form, const struct form_file *f
         return "its type is not 28, 2A, 2C or 2E";
     if (!good_size(f))
         return "its two size bytes are not good for its type";
-    if (!good_right(f->read) || !good_right(f->write))
-        return "a rights byte is not 0F, and is 02 or has a bit that is none of 80, 40, 02 and 01";
+    if (!good_file_right(f->read) || !good_file_right(f->write))
+        return "a rights byte is not 0F, and is 02 or 06 or has a bit that is none of 80, 40, 04, 02 and 01";
     wrong = wrong_counts(f);
     if (wrong == NULL)
         wrong = wrong_home(form, f);

@@ -9,16 +9,16 @@
 
 #include "card.h"
 
-enum { DEVICE_KEY, ADMIN_PIN, USER_PIN, CREDENTIALS };
+enum { DEVICE_KEY, ADMIN_PIN, USER_PIN, TRANSPORT_KEY, CREDENTIALS, RIGHTS = TRANSPORT_KEY }; /* the transport key opens none */
 enum { MOST_FILES = 16, MOST_FOLDERS = 4, NO_FILE = -1 };
 enum { ROOT = 0x3F00 }; /* the FID that stands for the root, among those of directories */
 enum { BINARY = 0x28, FIXED = 0x2A, VARIABLE = 0x2C, CYCLIC = 0x2E };
-/* Of a rights byte: those who have to be there, all of them or, with ANY_ONE, one of them. */
-enum { FOR_ADMIN = 0x80, FOR_USER = 0x40, FOR_DEVICE = 0x01, ANY_ONE = 0x02, FOR_NOBODY = 0x0F };
+/* Of a rights byte: those who have to be there, all of them or, with ANY_ONE, one of them; and of a file's, that it asks for a code. */
+enum { FOR_ADMIN = 0x80, FOR_USER = 0x40, FOR_DEVICE = 0x01, ANY_ONE = 0x02, WITH_CODE = 0x04, FOR_NOBODY = 0x0F };
 
 struct form_credential {
     uint16_t limit, left;
-    bool held; /* its right */
+    bool held; /* its right, where it has one */
 };
 
 /* A directory of the card. */

@@ -22,25 +22,25 @@ const char said_by[] = "card";
 
 static const char usage[] =
     "usage: tools/card new CARD KEY LIMIT ADMIN_PIN LIMIT USER_PIN LIMIT [MODE]\n"
+    "                           TRANSPORT_KEY LIMIT\n"
     "       tools/card new CARD SCRIPT\n"
     "       tools/card run CARD SCRIPT\n"
     "       tools/card show CARD\n"
     "       tools/card check CARD\n"
     "       tools/card convert --to-new|--to-old [--into FOLDER] [--dry-run] CARD...\n"
     "\n"
-    "CARD is a file with a whole card in it: key, PINs, tries, session, directories and\n"
-    "files. docs/CARD-FILE.md says what stands where. Key and PINs stand there as they are,\n"
+    "CARD is a file with a whole card in it: keys, PINs, tries, session, directories and\n"
+    "files. docs/CARD-FILE.md says what stands where. Keys and PINs stand there as they are,\n"
     "so the file is for its owner alone (mode 600); one that others can open is warned of.\n"
     "\n"
     "new    makes a card, and the file with it. A file that is there is never\n"
-    "       overwritten. The values are those of an ISSUE line: the key as 32 upper-case\n"
+    "       overwritten. The values are those of an ISSUE line: each key as 32 upper-case\n"
     "       hex digits, each PIN 6 to 16 digits, each limit 1 to 128, the mode 0 (data\n"
     "       come with the answer; so it is without a mode) or 1 (they wait for GET\n"
-    "       RESPONSE). With - in place of the key or a PIN it is read from standard\n"
-    "       input, one a line; at a terminal each is asked for twice, and not shown. The\n"
-    "       words of a command line stay in the shell's history and in the terminal's\n"
-    "       scrollback, and others on the same machine can see them; not so what is typed\n"
-    "       at these questions, or piped.\n"
+    "       RESPONSE). With - in place of a key or a PIN it is read from standard input,\n"
+    "       one a line; at a terminal each is asked for twice, and not shown. Words of a\n"
+    "       command line stay in the shell's history and in the scrollback, and others on\n"
+    "       the machine can see them; not so what is typed at these questions, or piped.\n"
     "       Or a script makes the card: an ISSUE line, and CMD and RESET lines that\n"
     "       prepare it. Where one of its lines is not served, no card is made; where the\n"
     "       card refuses one by a status word, that is said, and the card is made.\n"
@@ -51,16 +51,15 @@ static const char usage[] =
     "       answer is printed, so what was answered is in CARD, however the run ends. A line\n"
     "       that is sent by a pipe or a terminal is stored and answered at once; the lines\n"
     "       of a file are stored in blocks. No line is run on a card that cannot be stored.\n"
-    "       An ISSUE line ends the run, and what was answered is stored: what follows it is\n"
-    "       for another card, and could block the PINs of this one. Two runs on one card\n"
-    "       wait for each other, up to 5 seconds.\n"
+    "       An ISSUE line ends the run: what follows it is for another card, and could\n"
+    "       block the PINs of this one. Two runs on one card wait for each other, up to 5\n"
+    "       seconds.\n"
     "show   prints form, tries left, mode, session, free space, and the root and each\n"
-    "       directory with its files; which of them are current stands there. No key, PIN,\n"
+    "       directory with its files, and which of them are current. No key, PIN,\n"
     "       challenge or contents, and of waiting bytes only how many there are.\n"
     "check  says whether the file is accepted, and where not, at which line and why, as\n"
-    "       far as that can be told; and which form it has. A card that was written before\n"
-    "       there were directories has the old form (docs/CARD-FILE.md): show and check\n"
-    "       take it, run does not.\n"
+    "       far as that can be told; and which form it has. The old form is that of before\n"
+    "       there were directories (docs/CARD-FILE.md): show and check take it, run does not.\n"
     "convert makes the new form of cards in the old one (--to-new), or the old form of\n"
     "       cards without directories (--to-old). Each file is replaced; with --into it\n"
     "       stays, and its card is put into FOLDER under the same name, where no file is\n"
@@ -78,7 +77,7 @@ static const char usage[] =
     "not 0). Ctrl-C, SIGTERM and SIGHUP end run after the present line, and convert after\n"
     "the present file.\n"
     "\n"
-    "  tools/card new box.card - 128 - 5 - 3         asks for the key and the PINs\n"
+    "  tools/card new box.card - 128 - 5 - 3 - 10    asks for the keys and the PINs\n"
     "  tools/card new box.card examples/box.script   the box of docs/STANDBY.md\n"
     "  tools/card show box.card\n"
     "  tools/card convert --to-new --dry-run shelf/*.card\n";
@@ -107,25 +106,24 @@ static void take_word(char *word, struct text *t)
 /* Where - stands for a key or a PIN, a line of standard input takes its place. lines: room for each. */
 static bool take_secrets(char *word[ISSUE_FIELDS], struct text lines[ISSUE_SECRETS])
 {
-    static const char *const names[ISSUE_SECRETS] = { "device key", "admin PIN", "user PIN" };
     struct secret wanted[ISSUE_SECRETS];
     size_t count = 0;
 
     for (size_t i = 0; i < ISSUE_SECRETS; i++) {
-        char *given = word[2 * i];
+        char **given = &word[issue_secrets[i]];
 
-        if (strcmp(given, "-") == 0)
-            wanted[count++] = (struct secret){ names[i], &lines[i] };
-        else if (strlen(given) <= LONGEST_LINE)
-            take_word(given, &lines[i]);
+        if (strcmp(*given, "-") == 0)
+            wanted[count++] = (struct secret){ credential_name(i), &lines[i] };
+        else if (strlen(*given) <= LONGEST_LINE)
+            take_word(*given, &lines[i]);
         else
             continue; /* no secret is so long, and it is refused */
-        word[2 * i] = (char *)lines[i].at;
+        *given = (char *)lines[i].at;
     }
     return read_secrets(wanted, count);
 }
 
-/* The mode, the last of them, may be missing: then it is 0. */
+/* The mode may be missing: then it is 0. */
 static bool issue_values(int words, char *const given[])
 {
     static char room[BUFSIZ]; /* lasts as long as standard input */
@@ -135,8 +133,7 @@ static bool issue_values(int words, char *const given[])
     bool good;
 
     setvbuf(stdin, room, _IOFBF, sizeof room);
-    word[ISSUE_FIELDS - 1] = mode_0;
-    memcpy(word, given, (size_t)words * sizeof word[0]);
+    complete_issue_words(words, given, mode_0, word);
     good = take_secrets(word, lines) && issue_words(word);
     wipe(lines, sizeof lines);
     wipe(room, sizeof room);
@@ -149,8 +146,8 @@ static int new_card(int words, char **word)
     enum found found;
     bool good = false;
 
-    if (words != 2 && words != ISSUE_FIELDS && words != 1 + ISSUE_FIELDS)
-        return bad_usage("new takes a card file and a script, or a card file and the values of an issue");
+    if (words != 2 && words != 1 + ISSUE_FIELDS_WITHOUT_MODE && words != 1 + ISSUE_FIELDS)
+        return bad_usage("new takes a card file and a script, or a card file and the 8 or 9 values of an issue");
     found = store_open(&s, word[0], TO_LOOK);
     if (found == CANNOT_OPEN)
         return EXIT_FAILURE;

@@ -23,7 +23,7 @@ static void show_credentials(const struct form *f)
 {
     for (size_t i = 0; i < CREDENTIALS; i++) {
         const struct form_credential *c = &f->credentials[i];
-        printf("%-10s  %u of %u tries left", credential_name(i), (unsigned)c->left, (unsigned)c->limit);
+        printf("%-13s  %u of %u tries left", credential_name(i), (unsigned)c->left, (unsigned)c->limit);
         if (c->left == 0)
             printf(": BLOCKED, %s", way_out(f, i));
         putchar('\n');
@@ -32,21 +32,21 @@ static void show_credentials(const struct form *f)
 
 static void show_form(const struct form *f)
 {
-    printf("form        %s\n", f->form == NEW_FORM ? "new" : "old, of before there were directories: tools/card convert --to-new");
+    printf("form           %s\n", f->form == NEW_FORM ? "new" : "old, of before there were directories: tools/card convert --to-new");
 }
 
 static void show_mode(const struct form *f)
 {
-    printf("mode        %s\n", f->mode == 0 ? "0: data come with the answer" : "1: data wait for GET RESPONSE");
+    printf("mode           %s\n", f->mode == 0 ? "0: data come with the answer" : "1: data wait for GET RESPONSE");
 }
 
 static void show_session(const struct form *f)
 {
-    static const char *const held[CREDENTIALS] = { "the device is logged in", "the admin PIN is shown", "the user PIN is shown" };
+    static const char *const held[RIGHTS] = { "the device is logged in", "the admin PIN is shown", "the user PIN is shown" };
     const char *before = "";
 
-    fputs("session     ", stdout);
-    for (size_t i = 0; i < CREDENTIALS; i++)
+    fputs("session        ", stdout);
+    for (size_t i = 0; i < RIGHTS; i++)
         if (f->credentials[i].held) {
             printf("%s%s", before, held[i]);
             before = ", ";
@@ -76,9 +76,9 @@ static void show_room(const struct form *f)
 
     for (size_t i = 0; i < f->count; i++)
         used += bytes_taken(&f->files[i]);
-    printf("files       %zu of %d\n", f->count, MOST_FILES);
-    printf("directories %zu of %d\n", f->folder_count, MOST_FOLDERS);
-    printf("free space  %u of %d bytes\n", LIMPET_AREA_SIZE - used, LIMPET_AREA_SIZE);
+    printf("files          %zu of %d\n", f->count, MOST_FILES);
+    printf("directories    %zu of %d\n", f->folder_count, MOST_FOLDERS);
+    printf("free space     %u of %d bytes\n", LIMPET_AREA_SIZE - used, LIMPET_AREA_SIZE);
 }
 
 static const char *type_name(uint8_t type)
@@ -124,17 +124,19 @@ static void show_right(uint8_t right)
     } words[] = { { FOR_ADMIN, "admin PIN" }, { FOR_USER, "user PIN" }, { FOR_DEVICE, "device" } };
     const char *before = "", *between = (right & ANY_ONE) != 0 ? " or " : " and ";
 
-    if (right == 0)
+    if (right == FOR_NOBODY) {
+        puts("nobody, ever");
+        return;
+    }
+    if ((right & ~WITH_CODE) == 0)
         fputs("anybody", stdout);
-    else if (right == FOR_NOBODY)
-        fputs("nobody, ever", stdout);
     else
         for (size_t i = 0; i < sizeof words / sizeof words[0]; i++)
             if ((right & words[i].bit) != 0) {
                 printf("%s%s", before, words[i].word);
                 before = between;
             }
-    putchar('\n');
+    puts((right & WITH_CODE) != 0 ? ", with a code" : "");
 }
 
 static void show_file(const struct form_file *f, bool current)

@@ -9,7 +9,8 @@ strict=(-Wall -Wextra -pedantic -Werror -Iinclude)
 hardened=(-O2 -fstack-protector-strong -U_FORTIFY_SOURCE -D_FORTIFY_SOURCE=2 "-Wl,-z,relro,-z,now")
 
 # The programs and libraries here are for x86-64: the compilers for it, and the Debian packages with them and with what watches
-# such a program at work. x86 PROGRAM ARGUMENT... runs one. On another processor it is emulated, and nothing can watch it.
+# such a program at work. x86 PROGRAM ARGUMENT... runs one. On another processor it is emulated, and nothing can watch what it does to
+# memory; its instructions can be counted.
 if [ "$(uname -m)" = x86_64 ]; then
     emulated=no
     cc=gcc cxx=g++
@@ -271,46 +272,76 @@ build_card() {
 # build_program NAME FLAG...: builds $built/NAME, one of the programs in C of tests/c and bench, over $library. What follows a hyphen in
 # the name tells builds of one program apart; NAME-faulty has tests/c/faults.c in between.
 build_program() {
-    local name=$1 sources
+    local name=$1 sources watched=(tests/c/{watched,coded,aes_bytes,layout,lent}.c)
     shift
     case ${name%%-*} in
-    inplace) sources=(tests/c/{inplace,watched,layout,lent}.c reader/lines.c) ;;
-    refusals) sources=(tests/c/{refusals,spoiled,areas,groups,cards,watched,layout,lent}.c) ;;
-    texts) sources=(tests/c/{texts,watched,layout,lent}.c) ;;
-    conversions) sources=(tests/c/{conversions,lent}.c) ;;
+    inplace) sources=(tests/c/inplace.c "${watched[@]}" reader/lines.c) ;;
+    refusals) sources=(tests/c/{refusals,spoiled,areas,groups,cards}.c "${watched[@]}") ;;
+    texts) sources=(tests/c/texts.c "${watched[@]}") ;;
+    codes) sources=(tests/c/{codes,by_openssl}.c) ;;
+    middle) sources=(tests/c/{middle,by_openssl,groups,cards}.c "${watched[@]}") ;;
     stack) sources=(tests/c/{stack,play}.c reader/lines.c) ;;
-    verifies | blocks | compare) sources=("tests/c/${name%%-*}.c") ;;
+    verifies) sources=(tests/c/{verifies,coded,aes_bytes}.c) ;;
+    blocks | compare) sources=("tests/c/${name%%-*}.c") ;;
     calls) sources=(bench/{calls,measure}.c tests/c/play.c reader/lines.c) ;;
-    notes) sources=(bench/{notes,measure}.c) ;;
-    timed_texts) sources=(bench/{texts,plain_text,measure}.c tests/c/{cards,watched,layout,lent}.c) ;;
-    fuzz_texts) sources=(tests/c/{fuzz_texts,cards,watched,layout,lent}.c bench/{plain_text,measure}.c) ;;
+    notes) sources=(bench/{notes,measure}.c tests/c/{coded,aes_bytes}.c) ;;
+    timed_texts) sources=(bench/{texts,plain_text,measure}.c tests/c/cards.c "${watched[@]}") ;;
+    fuzz_texts) sources=(tests/c/{fuzz_texts,cards}.c "${watched[@]}" bench/{plain_text,measure}.c) ;;
     *) echo "there is no program $name" >&2 && return 1 ;;
     esac
     if [[ $name == *-faulty ]]; then
         sources+=(tests/c/faults.c)
+        [[ " ${sources[*]} " == *" tests/c/coded.c "* ]] || sources+=(tests/c/{coded,aes_bytes,layout}.c)
         set -- "$@" -Wl,--wrap=limpet_issue,--wrap=limpet_command,--wrap=limpet_reset,--wrap=limpet_to_text,--wrap=limpet_from_text \
-            -Wl,--wrap=limpet_text_to_new,--wrap=limpet_text_to_old
+            -Wl,--wrap=limpet_text_to_new,--wrap=limpet_text_to_old,--wrap=limpet_code
     fi
     mkdir -p $built
     rm -f "$built/$name" # so that what is run is what was built now
-    $cc -std=c11 "$@" "${strict[@]}" -Ireader -Itests/c "${sources[@]}" "$library" -o "$built/$name"
+    $cc -std=c11 "$@" "${strict[@]}" -Ireader -Itests/c -DAES_BYTES=aes_bytes "${sources[@]}" "$library" -o "$built/$name"
 }
 
+# How a program is built whose instructions are counted: at addresses of its own, and with no function of C looked up in a call.
+to_count=(-no-pie "-Wl,-z,now")
+
 # count_instructions FUNCTION PROGRAM ARGUMENT...: a line for each call of the function that the program makes: what it prints of the
-# call, and how many instructions the call takes, by callgrind. Callgrind writes a part with its own total after each call, and one
-# at the end.
+# call, and how many instructions the call takes. They are counted by callgrind, or by the emulator where there is one. With
+# within=CRATE::FUNCTION only those in that function and in what it calls; the emulator takes all functions of the crate.
 count_instructions() {
-    local function=$1 counts
+    local function=$1 counts status=0
     shift
     counts=$(mktemp -d)
-    valgrind -q --tool=callgrind --callgrind-out-file="$counts/out" --combine-dumps=yes \
-        --toggle-collect="$function" --dump-after="$function" "$@" >"$counts/calls" &&
-        sed -n 's/^totals: //p' "$counts/out" | sed '$d' >"$counts/totals" &&
-        [ "$(wc -l <"$counts/calls")" = "$(wc -l <"$counts/totals")" ] &&
+    if [ $emulated = no ]; then
+        count_by_callgrind "$@" || status=$?
+    else
+        count_by_emulator "$@" || status=$?
+    fi
+    if ((status == 0)) && [ "$(wc -l <"$counts/calls")" = "$(wc -l <"$counts/totals")" ]; then
         paste -d ' ' "$counts/calls" "$counts/totals"
-    local status=$?
+    else
+        status=1
+    fi
     rm -rf "$counts"
     return $status
+}
+
+# Callgrind writes a part with its own total after each call, and one at the end.
+count_by_callgrind() {
+    valgrind -q --tool=callgrind --callgrind-out-file="$counts/out" --combine-dumps=yes \
+        --toggle-collect="${within:-$function}" --dump-after="$function" "$@" >"$counts/calls" || return
+    sed -n 's/^totals: //p' "$counts/out" | sed '$d' >"$counts/totals"
+}
+
+# The emulator writes a line for each instruction that is run. QEMU_SINGLESTEP is what an older one calls it.
+count_by_emulator() {
+    local counting status=0
+    mkfifo "$counts/run"
+    python3 tests/machine/count.py ${within:+--within "${within%::*}::"} "$function" "$1" <"$counts/run" >"$counts/totals" &
+    counting=$!
+    QEMU_LOG=exec,nochain QEMU_ONE_INSN_PER_TB=1 QEMU_SINGLESTEP=1 QEMU_LOG_FILENAME=$counts/run x86 "$@" >"$counts/calls" || status=$?
+    if ((status != 0)); then
+        kill "$counting" 2>/dev/null || true # where no emulator was started it would wait for one
+    fi
+    wait "$counting" && return $status
 }
 
 passed=0

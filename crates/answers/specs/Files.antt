@@ -21,6 +21,8 @@ pub record Files : Type 0 where
   pub numbers-ends-by : OneAnswer files.numbers.ends_by.ended files.numbers.ends_by.Reads.Learnt
   pub access-allowed : OneAnswer files.access.allowed.ended files.access.allowed.Reads.Learnt
   pub access-good-rights : OneAnswer files.access.good_rights.ended files.access.good_rights.Reads.Learnt
+  pub access-asks-code : OneAnswer files.access.asks_code.ended files.access.asks_code.Reads.Learnt
+  pub access-good-file-rights : OneAnswer files.access.good_file_rights.ended files.access.good_file_rights.Reads.Learnt
   pub sizes-has-records : OneAnswer files.sizes.has_records.ended files.sizes.has_records.Reads.Learnt
   pub sizes-count : OneAnswer files.sizes.count.ended files.sizes.count.Reads.Learnt
   pub sizes-record-length : OneAnswer files.sizes.record_length.ended files.sizes.record_length.Reads.Learnt

@@ -7,12 +7,12 @@ use Rattle.rules.specs.declared.Card.{Card}
 use Rattle.rules.specs.declared.Ins.{Ins}
 use Rattle.rules.specs.declared.Ins.the-variants.{Select, ReadBinary, UpdateBinary, ReadRecord, UpdateRecord, AppendRecord, Verify, Authenticate, ChangePin, ReloadPin, CreateFile, GetChallenge, GetResponse, Unlisted}
 use Rattle.rules.specs.Frame.{Command}
-use Rattle.rules.specs.List.{listed, Role, touchesNothing, selects, readsBinary, readsRecord, writesBinary, writesRecord, makesFile, presentsPin, presentsKey, changesPin, reloadsPin, asksChallenge, role}
+use Rattle.rules.specs.List.{listed, Role, touchesNothing, selects, readsBinary, readsRecord, writesBinary, writesRecord, appendsRecord, makesFile, presentsPin, presentsKey, changesPin, reloadsPin, asksChallenge, role}
 use Rattle.rules.specs.Binary.{target, binaryTarget}
 use Rattle.rules.specs.Record.{recordTarget}
 use Rattle.rules.proofs.Good.{Good}
 use Rattle.demands.specs.Held.{Named, binarySfi, recordSfi}
-use Rattle.demands.specs.Framing.{NamedBy}
+use Rattle.demands.specs.Framing.{EitherClass, NamedBy}
 use Rattle.demands.specs.Files.{Addresses, WritesTo, ReadsFrom}
 use Rattle.demands.proofs.Framing.{listed-by-bytes}
 use Rattle.demands.proofs.Named.{target-named}
@@ -25,6 +25,7 @@ writesTo readsBinary c k = 0
 writesTo readsRecord c k = 0
 writesTo writesBinary c k = binaryTarget c k
 writesTo writesRecord c k = recordTarget c k
+writesTo appendsRecord c k = recordTarget c k
 writesTo makesFile c k = 0
 writesTo presentsPin c k = 0
 writesTo presentsKey c k = 0
@@ -40,6 +41,7 @@ readsFrom readsBinary c k = binaryTarget c k
 readsFrom readsRecord c k = recordTarget c k
 readsFrom writesBinary c k = 0
 readsFrom writesRecord c k = 0
+readsFrom appendsRecord c k = 0
 readsFrom makesFile c k = 0
 readsFrom presentsPin c k = 0
 readsFrom presentsKey c k = 0
@@ -48,7 +50,7 @@ readsFrom reloadsPin c k = 0
 readsFrom asksChallenge c k = 0
 
 module _ (c : Card) (g : Good c) (k : Command) (n : ℕ) (some : 1 ≤ n) where
-  by-target : (ins sfi : ℕ) → (k .cla ≡ 0x00) × (k .ins ≡ ins) → target c sfi ≡ n → Addresses c k ins sfi n
+  by-target : (ins sfi : ℕ) → EitherClass (k .cla) × (k .ins ≡ ins) → target c sfi ≡ n → Addresses c k ins sfi n
   by-target ins sfi b e =
       let there : 1 ≤ target c sfi = omega (arith, e, some) in
       record { class-is = b .0; instruction-is = b .1; named = subst (Named c sfi) e (target-named c g sfi there) }

@@ -3,7 +3,7 @@ use Prim.Native.Nat.{ℕ, _+_, _-_, _≤_}
 use mathlib.Core.Bool.{Bool, true, false, cond}
 use mathlib.Core.List.{List, [], _∷_, _++_}
 use mathlib.Core.Logic.{_⊎_, inl, inr, ⊎-elim}
-use mathlib.Core.Path.{_≡_, refl, sym, ap, ap₂, _∙_, subst}
+use mathlib.Core.Path.{_≡_, refl, sym, ap, ap₂, _∙_, subst, fun-ext}
 use native.Mathlib.Omega.{arith}
 use lib.ListN.{length}
 use lib.Seq.{getD-set-same}
@@ -15,20 +15,22 @@ use Rattle.files.specs.declared.Located.{Located}
 use Rattle.files.specs.State.{emptied, blankFolder}
 use Rattle.files.specs.Part.{part, over, zeros, splice}
 use Rattle.files.specs.Types.{size}
+use Rattle.files.specs.Rights.{asksCode}
 use Rattle.files.specs.Directory.{fileAt, start, extent, isPlace, inArea}
 use Rattle.files.specs.Words.{isZero, two}
 use Rattle.files.specs.Create.{areaSize, created, creates, founded}
-use Rattle.files.proofs.Checks.{clash, split}
+use Rattle.files.proofs.Checks.{clash, both, split}
 use Rattle.files.proofs.Parts.{part-apart}
 use Rattle.files.proofs.Extents.{lies}
 use Rattle.files.proofs.Kept.{filed, lies-in-area}
 use Rattle.files.proofs.Making.{founding}
 use Rattle.files.proofs.Stays.{new-file, new-zero}
+use Rattle.rules.specs.declared.Credential.{Credential}
 use Rattle.rules.specs.declared.Card.{Card}
 use Rattle.rules.specs.declared.Ins.{Ins}
 use Rattle.rules.specs.declared.Ins.the-variants.{Select, CreateFile}
 use Rattle.rules.specs.Words.{first, same, swBytes}
-use Rattle.rules.specs.State.{Which, device, admin, user, marked, Login, login, mode, waiting, withWaiting}
+use Rattle.rules.specs.State.{Which, device, admin, user, transport, marked, Login, Logins, login, logins, challenge, mode, waiting, withCredentials, withWaiting}
 use Rattle.rules.specs.Frame.{Command, framed, frameSw, classSw}
 use Rattle.rules.specs.Effect.{Deed, turns, enters, shows, stores, appends, makes, founds, Touch, nothing, presents, changes, reloads, challenges, Effect}
 use Rattle.rules.specs.Binary.{fileOf, opens}
@@ -37,18 +39,19 @@ use Rattle.rules.specs.Select.{selected}
 use Rattle.rules.specs.Create.{creationRight}
 use Rattle.rules.specs.List.{listed, isGetResponse, Role, role, rule}
 use Rattle.rules.specs.Response.{waitSw, fetchCount, fetches}
-use Rattle.rules.specs.Step.{did, touched, checks, effectOf, swOf, ruled, outcome, Stepped, settled, atOnce, waits, delivered, gives, unchanged, fetchSw, fetched, step}
+use Rattle.rules.specs.Step.{did, touched, checks, effectOf, kept, swOf, ruled, outcome, Stepped, settled, atOnce, waits, delivered, gives, unchanged, fetchSw, fetched, step}
 use Rattle.rules.specs.Calls.{replySize, randomSize, answer, refused, served, command}
 use Rattle.rules.proofs.Good.{sound-good, sound-parted}
 use Rattle.rules.proofs.Targets.{place-named}
-use Rattle.demands.specs.Ledger.{Event, sent, resets, isHeld, Label, Tag, noLabel, labelGiven, tagGiven, sizeOf, labelIn, tagIn, Ledger, page, selectSw, servable, ledger, heldIn}
+use Rattle.demands.specs.Ledger.{Event, sent, resets, Kind, right as rightly, kind, kindIn, isHeld, opensRight, Label, Tag, noLabel, labelGiven, tagGiven, sizeOf, labelIn, tagIn, Ledger, page, selectSw, servable, ledger, heldIn}
 use Rattle.demands.specs.Run.{World, world, called, after}
-use Rattle.demands.specs.Files.{Labelled, FilesFollow, Written, Read, Writes, Stays, Altered, AlikeBut, SameBut, Shown, Made, MadeDirectory, NoneMade, Makes, Created}
-use Rattle.demands.specs.Held.{labelOf, Opens, MayCreate, IsFile, labelNo, tagNo}
+use Rattle.demands.specs.Files.{Labelled, FilesFollow, RightCode, Written, Read, Writes, Stays, Altered, AlikeBut, SameBut, Shown, Made, MadeDirectory, NoneMade, Makes, Created}
+use Rattle.demands.specs.Held.{labelOf, Opens, AsksCode, MayCreate, IsFile, labelNo, tagNo}
 use Rattle.demands.specs.Framing.{NamedBy}
 use Rattle.demands.proofs.Trees.{each-at}
 use Rattle.demands.proofs.Labels.{label-size, right-is, device-asked, select-same}
-use Rattle.demands.proofs.Rows.{Fair, by-rule}
+use Rattle.demands.proofs.Rows.{codeIn, Fair, by-rule, kind-same}
+use Rattle.demands.proofs.Asked.{right-code}
 use Rattle.demands.proofs.Delivered.{fetched-by, step-by}
 use Rattle.demands.proofs.Soundness.{leaves}
 use Rattle.demands.proofs.Live.{Live, after-live, command-served, command-is, reset-is}
@@ -64,7 +67,7 @@ use Rattle.demands.proofs.Framing.{listed-by-bytes}
 -- what the card opens the ledger opens
 module _ (c : Card) (l : Ledger) (agree : Agree c l) where
   held-told : (w : Which) → login w c .held ≡ true → isHeld (page w l .history) ≡ true
-  held-told w h = sym (ap (λ (x : Login). x .held) (agree .logins-are w)) ∙ h
+  held-told w h = both (opensRight w) (isHeld (page w l .history)) (sym (ap (λ (x : Login). x .held) (agree .logins-are w)) ∙ h) .1
 
   opens-told : (right : ℕ) → opens c right ≡ true → Opens (heldIn l) right
   opens-told right h = opens-by right (λ w e. held-told w (eq-eqb _ _ e)) (opens-asked c right h)
@@ -82,6 +85,19 @@ module _ (c : Card) (area : List ℕ) (live : Live (world c area)) (l : Ledger) 
   pub right-told : (place : ℕ) → IsFile c place → (right : Label → ℕ) → opens c (right (labelNo c place)) ≡ true
       → Opens (heldIn l) (right (labelIn (l .tree .labels) place))
   right-told place here right h = rw (← labels-told .label-is place here) (opens-told c l agree _ h)
+
+  -- what the command is to the transport key it is in the ledger too
+  kind-told : (cmd : List ℕ) → codeIn (listed (framed cmd)) c (framed cmd) ≡ kindIn l cmd transport
+  kind-told cmd =
+      sym (kind-same (listed (framed cmd)) (logins c) (challenge c) cmd transport)
+      ∙ ap₂ (λ (x : Logins) (ch : List ℕ). kind (role (listed (framed cmd))) x ch cmd transport) (fun-ext (agree .logins-are)) (agree .challenge-is)
+
+  -- and a code that a file asks is a right one
+  pub code-told : (cmd : List ℕ) (place : ℕ) → IsFile c place → (right : Label → ℕ)
+      → (asksCode (right (labelNo c place)) ≡ true → codeIn (listed (framed cmd)) c (framed cmd) ≡ rightly)
+      → AsksCode (right (labelIn (l .tree .labels) place)) → RightCode l cmd
+  code-told cmd place here right h =
+      rw (← labels-told .label-is place here) (λ a. let e = a .bit-set in right-code l cmd (sym (kind-told cmd) ∙ h (rw e)))
 
 -- two steps that are the same but for a file's bytes
 pub record SameStep (place : ℕ) (a b : Stepped) : Type 0 where
@@ -110,6 +126,9 @@ module _ (c : Card) (area cmd random : List ℕ) (live : Live (world c area)) (p
   abbrev r : Role
   r = role (listed (framed cmd))
 
+  abbrev y : Kind
+  y = codeIn (listed (framed cmd)) c (framed cmd)
+
   abbrev e : Effect
   e = outcome (listed (framed cmd)) c (recordFound c area (framed cmd)) (framed cmd) random
 
@@ -119,13 +138,13 @@ module _ (c : Card) (area cmd random : List ℕ) (live : Live (world c area)) (p
   here : isPlace (c .directory) place ≡ true
   here = place-named (c .directory) (sound-good c area (live .sound-card) .directory) place (file-here .first) (file-here .last)
 
-  treated : Treats c area place r (framed cmd) (outcome (listed (framed cmd)) c (recordFound c area (framed cmd)) (framed cmd) random)
-  treated = treats c area (live .sound-card) place some (file-here .last) (framed cmd) (listed (framed cmd)) random
+  treated : Treats y c area place r (framed cmd) (outcome (listed (framed cmd)) c (recordFound c area (framed cmd)) (framed cmd) random)
+  treated = treats (listed (framed cmd)) c area (live .sound-card) place some (file-here .last) (framed cmd) random
 
   fits : (bytes : List ℕ) → length bytes ≡ areaSize → e .into + length (e .stores) ≤ length bytes
   fits bytes q = rw q (leaves c area (live .sound-card) (framed cmd) random (listed (framed cmd)) .stored)
 
-  at-once-alters : Stays (world c area) (world (atOnce c area cmd random .card) (atOnce c area cmd random .area)) place ⊎ By c place (writesTo r c (framed cmd)) (λ f. f .write)
+  at-once-alters : Stays (world c area) (world (atOnce c area cmd random .card) (atOnce c area cmd random .area)) place ⊎ By y c place (writesTo r c (framed cmd)) (λ f. f .write)
   unfolding atOnce settled extent
   at-once-alters =
       ⊎-elim
@@ -141,7 +160,7 @@ module _ (c : Card) (area cmd random : List ℕ) (live : Live (world c area)) (p
       (λ q. inr (q .0)) (treated .kept)
 
   -- what waits is nothing to the files, and GET RESPONSE leaves them
-  pub step-alters : Stays (world c area) (world (step c area cmd random .card) (step c area cmd random .area)) place ⊎ By c place (writesTo r c (framed cmd)) (λ f. f .write)
+  pub step-alters : Stays (world c area) (world (step c area cmd random .card) (step c area cmd random .area)) place ⊎ By y c place (writesTo r c (framed cmd)) (λ f. f .write)
   step-alters =
       step-by Left c area cmd random
       (λ f. fetched-by Left c area (framed cmd) (λ q. inl (record { there = record { first = file-here .first; last = file-here .last }; file-is = refl; bytes-are = refl }))
@@ -150,14 +169,14 @@ module _ (c : Card) (area cmd random : List ℕ) (live : Live (world c area)) (p
       (λ m f. at-once-alters)
     where
       Left : Stepped → Type 0
-      Left s = Stays (world c area) (world (s .card) (s .area)) place ⊎ By c place (writesTo r c (framed cmd)) (λ f. f .write)
+      Left s = Stays (world c area) (world (s .card) (s .area)) place ⊎ By y c place (writesTo r c (framed cmd)) (λ f. f .write)
 
   -- on an area that differs in the file's bytes alone
   module _ (other : List ℕ) (alike : AlikeIn c place area other) where
     here-in : inArea (c .directory) place (length area) ≡ true
     here-in = lies-in-area (c .directory) area (sound-parted c area (live .sound-card)) place here
 
-    at-once-same : SameStep place (atOnce c area cmd random) (atOnce c other cmd random) ⊎ By c place (readsFrom r c (framed cmd)) (λ f. f .read)
+    at-once-same : SameStep place (atOnce c area cmd random) (atOnce c other cmd random) ⊎ By y c place (readsFrom r c (framed cmd)) (λ f. f .read)
     unfolding atOnce settled
     at-once-same =
         rw (← found-same c area other place (live .sound-card) here alike (framed cmd))
@@ -171,13 +190,13 @@ module _ (c : Card) (area cmd random : List ℕ) (live : Live (world c area)) (p
                 rw (treated .start-is, treated .size-is)
                 (alike-splice (start (c .directory) place) (size (fileOf c place)) area other (alike .but-bytes) (e .into) (e .stores) (fits area (live .size-is)));
             lengths-are =
-                treated-lengths c area place r (framed cmd) e treated (lies (c .directory) place (length area) here-in .fits)
+                treated-lengths y c area place r (framed cmd) e treated (lies (c .directory) place (length area) here-in .fits)
                 (fits area (live .size-is)) other (sym (alike .but-bytes .length-is)) (alike .lengths-are);
           };
         }))
         inr (treated .hidden))
 
-    pub step-same : SameStep place (step c area cmd random) (step c other cmd random) ⊎ By c place (readsFrom r c (framed cmd)) (λ f. f .read)
+    pub step-same : SameStep place (step c area cmd random) (step c other cmd random) ⊎ By y c place (readsFrom r c (framed cmd)) (λ f. f .read)
     unfolding step fetched
     step-same = go (fetches c (framed cmd)) (marked (mode c))
       where
@@ -188,7 +207,7 @@ module _ (c : Card) (area cmd random : List ℕ) (live : Live (world c area)) (p
         go : (b m : Bool)
             → SameStep place (cond b (fetched c area (framed cmd)) (delivered m (atOnce c area cmd random)))
             (cond b (fetched c other (framed cmd)) (delivered m (atOnce c other cmd random)))
-            ⊎ By c place (readsFrom r c (framed cmd)) (λ f. f .read)
+            ⊎ By y c place (readsFrom r c (framed cmd)) (λ f. f .read)
         go true m = inl (both-fetched (eqb (fetchSw c (framed cmd)) 0x9000) (fetchCount (length (waiting c)) (framed cmd)) (fetchSw c (framed cmd)))
         go false true = ⊎-elim (λ k. inl (both-wait place (atOnce c area cmd random) (atOnce c other cmd random) k)) inr at-once-same
         go false false = at-once-same
@@ -202,6 +221,7 @@ module _ (c : Card) (area : List ℕ) (live : Live (world c area)) (l : Ledger) 
       (λ q. ⊎-elim inl (λ b. inr (record {
         addressed = writes-to c (sound-good c area (live .sound-card)) (framed cmd) n (file-here .first) (b .0);
         by-right = right-told c area live l agree n file-here (λ x. x .write) (b .1);
+        by-code = code-told c area live l agree cmd n file-here (λ x. x .write) (b .2);
       })) (step-alters c area cmd random live n file-here))
       (λ q. inl (record { there = record { first = file-here .first; last = file-here .last }; file-is = refl; bytes-are = refl })))
   call-alters resets n file-here =
@@ -227,6 +247,7 @@ module _ (c : Card) (area : List ℕ) (live : Live (world c area)) (l : Ledger) 
           (λ b. inr (record {
             addressed = reads-from c (sound-good c area (live .sound-card)) (framed cmd) n (file-here .first) (b .0);
             by-right = right-told c area live l agree n file-here (λ x. x .read) (b .1);
+            by-code = code-told c area live l agree cmd n file-here (λ x. x .read) (b .2);
           }))
           (step-same c area cmd random live n file-here other (alike-in c n area other alike))
       go true false = inl (record { answer-is = refl; reply-is = refl; areas = alike })
@@ -259,7 +280,7 @@ module _ (c : Card) (area : List ℕ) (live : Live (world c area)) (l : Ledger) 
 
   at-once-sw : atOnce c area cmd random .sw ≡ swOf Select c (recordFound c area (framed cmd)) (framed cmd)
   unfolding atOnce settled outcome
-  at-once-sw = rw named (ruled-sw (swOf Select c x k) c (effectOf Select c x k random) (quiet .ends))
+  at-once-sw = rw named (ruled-sw (swOf Select c x k) (kept Select c k) (effectOf Select c x k random) (quiet .ends))
 
   at-once-empty : atOnce c area cmd random .bytes ≡ []
   unfolding atOnce settled outcome part
@@ -319,14 +340,14 @@ module _ (i : Ins) (c : Card) (area : List ℕ) (live : Live (world c area)) (k 
   same-counts : (e : Effect) → e .card .directory .count ≡ c .directory .count → e .card .directory .number ≡ c .directory .number → Counts i c area k e
   same-counts e p q = inl (record { files-are = p; directories-are = q })
 
-  deed-counts : (d : Deed) → Fair i c area k d → Counts i c area k (did c d)
+  deed-counts : (xs : List Credential) (d : Deed) → Fair i c area k d → Counts i c area k (did (withCredentials c xs) d)
   unfolding created founded
-  deed-counts (turns place) q = same-counts _ refl refl
-  deed-counts (enters n) q = same-counts _ refl refl
-  deed-counts (shows place at n) q = same-counts _ refl refl
-  deed-counts (stores place at bytes) q = same-counts _ refl refl
-  deed-counts (appends place bytes) q = same-counts _ refl refl
-  deed-counts (makes f) q =
+  deed-counts xs (turns place) q = same-counts _ refl refl
+  deed-counts xs (enters n) q = same-counts _ refl refl
+  deed-counts xs (shows place at n) q = same-counts _ refl refl
+  deed-counts xs (stores place at bytes) q = same-counts _ refl refl
+  deed-counts xs (appends place bytes) q = same-counts _ refl refl
+  deed-counts xs (makes f) q =
       let sixteen = filed (c .directory) (sound-good c area (live .sound-card) .directory) .places in
       let served : creates (c .directory) f (length area) ≡ true = rw (live .size-is) (q .served) in
       inr (inl (record {
@@ -337,7 +358,7 @@ module _ (i : Ins) (c : Card) (area : List ℕ) (live : Live (world c area)) (k 
         file-is = (f, (new-file (c .directory) f area sixteen served, q .given));
         bytes-are = new-zero (c .directory) f area sixteen served ∙ ap zeros (label-size f ∙ ap sizeOf (q .given));
       }))
-  deed-counts (founds x) q =
+  deed-counts xs (founds x) q =
       let four = filed (c .directory) (sound-good c area (live .sound-card) .directory) .folders .places in
       let few = founding (c .directory) x (q .served) .few in
       let at : c .directory .number + 1 - 1 ≡ c .directory .number = omega arith in
@@ -363,8 +384,8 @@ step-counts : (c : Card) (area cmd random : List ℕ) → Live (world c area)
     → Counts (listed (framed cmd)) c area (framed cmd) (outcome (listed (framed cmd)) c (recordFound c area (framed cmd)) (framed cmd) random)
 step-counts c area cmd random live =
     let i = listed (framed cmd) in
-    by-rule (Counts i c area (framed cmd)) i c area (live .sound-card) (framed cmd) random (deed-counts i c area live (framed cmd))
-    (λ t q. touch-counts i c area live (framed cmd) t random) (λ sw. inl (record { files-are = refl; directories-are = refl }))
+    by-rule (Counts i c area (framed cmd)) i c area (live .sound-card) (framed cmd) random (λ xs v. deed-counts i c area live (framed cmd) xs)
+    (λ t q. touch-counts i c area live (framed cmd) t random) (λ xs v sw. inl (record { files-are = refl; directories-are = refl }))
 
 -- what CREATE FILE needs, in the ledger
 module _ (c : Card) (area : List ℕ) (live : Live (world c area)) (l : Ledger) (agree : Agree c l) (h : opens c (creationRight c) ≡ true) where

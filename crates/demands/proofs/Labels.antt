@@ -1,5 +1,5 @@
 -- The ledger's tree and the card's files and directories: what CREATE FILE and SELECT ask of either is the same.
-use Prim.Native.Nat.{ℕ, suc, _+_, _%_, _≤_, _<_, min}
+use Prim.Native.Nat.{ℕ, suc, _+_, _-_, _*_, _/_, _%_, _≤_, _<_, min}
 use mathlib.Core.Bool.{Bool, true, false, cond, _&&_, _||_, not}
 use mathlib.Core.List.{List, [], _∷_}
 use mathlib.Core.Logic.{by-cases}
@@ -13,7 +13,7 @@ use Rattle.files.specs.declared.File.{File}
 use Rattle.files.specs.declared.Directory.{Directory}
 use Rattle.files.specs.Words.{seek, isZero}
 use Rattle.files.specs.Types.{isVariable, sizedInBytes, hasRecords, count, recordLength, size, goodShape}
-use Rattle.files.specs.Rights.{goodRights, allHeld, allowed}
+use Rattle.files.specs.Rights.{goodRights, goodFileRights, allHeld, allowed}
 use Rattle.files.specs.Directory.{used, fileAt, startAt, findFid, findSfi, folderAt, folder, findFolder}
 use Rattle.files.specs.Record.{appended}
 use Rattle.files.specs.Create.{goodContents, apart, nameUnused, fidUnused, room, folderRoom}
@@ -26,7 +26,7 @@ use Rattle.rules.specs.Binary.{opens}
 use Rattle.rules.specs.Select.{selected, selectChecks, selectDeed}
 use Rattle.rules.specs.Effect.{Deed, turns, enters, shows, stores, appends, makes, founds}
 use Rattle.rules.specs.Create.{fileGiven, isFolder, folderGiven, goodFolderGiven, creationRight, createChecks, createDeed}
-use Rattle.demands.specs.Ledger.{Label, Tag, Tree, noTag, labelGiven, tagGiven, fidOf, sfiOf, fidOfTag, sizeOf, goodSize, goodRight, hasName, tagged, tagIn, bytesTaken, satisfied, mayCreate, asksDirectory, goodData, nameFree, roomFor, makeChecks, withMade, turnedTo, fidAsked, seekChecks, leadsTo}
+use Rattle.demands.specs.Ledger.{Label, Tag, Tree, noTag, labelGiven, tagGiven, fidOf, sfiOf, fidOfTag, sizeOf, goodSize, goodRight, goodFileRight, hasName, tagged, tagIn, bytesTaken, satisfied, mayCreate, asksDirectory, goodData, nameFree, roomFor, makeChecks, withMade, turnedTo, fidAsked, seekChecks, leadsTo}
 use Rattle.demands.specs.Held.{labelOf, tagOf}
 use Rattle.demands.proofs.Trees.{EachIs, each-same, each-at, satisfied-is}
 
@@ -37,6 +37,39 @@ pub record Matches (d : Directory) (current : ℕ) (t : Tree) : Type 0 where
   pub number-is : d .number ≡ length (t .tags)
   pub each-tag : EachIs Tag (λ i. tagOf (folderAt (d .folders) i)) (t .tags)
   pub current-is : current ≡ t .current
+
+-- the rights byte, in the ledger's words: without bit 3, and with it
+same-test : (a b : ℕ) → (a ≡ 0 → b ≡ 0) → (b ≡ 0 → a ≡ 0) → eqb a 0 ≡ eqb b 0
+same-test a b f g = by-cases (ℕ-discrete a 0) (λ e. rw (eq-eqb a 0 e, eq-eqb b 0 (f e))) (λ n. rw (ne-eqb a 0 n, ne-eqb b 0 (λ e. n (g e))))
+
+both-true : (a b : Bool) → (a && b) ≡ (a && (b && true))
+both-true true true = refl
+both-true true false = refl
+both-true false b = refl
+
+label-right : (b : ℕ) → goodFileRights b ≡ goodFileRight b
+unfolding goodFileRights goodRights
+label-right b =
+    let parts : b ≡ 8 * (b / 8) + 4 * (b / 4 % 2) + b % 4 = omega arith in
+    by-cases (ℕ-discrete (b / 4 % 2) 0)
+    (λ z. let x : b - 4 * (b / 4 % 2) ≡ b = omega arith in
+    let half : b / 4 ≡ 2 * (b / 8) = omega arith in
+    rw (x, ne-eqb b 15 (λ e. omega (arith, z, e)), ne-eqb b 6 (λ e. omega (arith, z, e)), same-test (b / 4 % 16) (b / 8 % 8) (λ e. twice (b / 8) (rw half at e)) (λ e. rw half (twice-back (b / 8) e)))
+    (both-true (eqb (b / 8 % 8) 0) (not (eqb b 2))))
+    (λ n. let one : b / 4 % 2 ≡ 1 = omega arith in
+    let x : b - 4 * (b / 4 % 2) ≡ b - 4 = omega arith in
+    let four : 4 ≤ b = omega arith in
+    let half : (b - 4) / 4 ≡ 2 * (b / 8) = omega arith in
+    rw (x, ne-eqb (b - 4) 15 (λ e. omega (arith, one, four, e)), ne-eqb b 2 (λ e. omega (arith, four, e)), same-test ((b - 4) / 4 % 16) (b / 8 % 8) (λ e. twice (b / 8) (rw half at e)) (λ e. rw half (twice-back (b / 8) e)), six b four))
+  where
+    twice : (n : ℕ) → 2 * n % 16 ≡ 0 → n % 8 ≡ 0
+    twice n e = let q : 2 * n / 16 ≡ n / 8 = omega arith in omega arith
+
+    twice-back : (n : ℕ) → n % 8 ≡ 0 → 2 * n % 16 ≡ 0
+    twice-back n e = let q : 2 * n / 16 ≡ n / 8 = omega arith in omega arith
+
+    six : (b : ℕ) → 4 ≤ b → eqb (b - 4) 2 ≡ eqb b 6
+    six b h = by-cases (ℕ-discrete b 6) (λ e. rw (eq-eqb (b - 4) 2 (omega arith), eq-eqb b 6 e)) (λ n. rw (ne-eqb (b - 4) 2 (λ e. n (omega arith)), ne-eqb b 6 n))
 
 -- what a label tells of a file
 module _ (f : File) where
@@ -64,9 +97,9 @@ module _ (f : File) where
       go false e =
           rw (count-records f e, length-records f e, no-third (eqb (f .kind) 0x28) (eqb (f .kind) 0x2A) (eqb (f .kind) 0x2E) (eqb (f .kind) 0x2C) e)
 
-  label-contents : goodContents f ≡ (goodSize (labelOf f) && (goodRight (f .read) && goodRight (f .write)))
-  unfolding goodContents goodRights
-  label-contents = ap (λ b. b && (goodRight (f .read) && goodRight (f .write))) label-shape
+  label-contents : goodContents f ≡ (goodSize (labelOf f) && (goodFileRight (f .read) && goodFileRight (f .write)))
+  unfolding goodContents
+  label-contents = rw (label-right (f .read), label-right (f .write)) (ap (λ b. b && (goodFileRight (f .read) && goodFileRight (f .write))) label-shape)
 
 -- of the files made so far: a search among them, and the bytes that they take
 label-unused : (name : Label → ℕ) (has : ℕ → Label) (directory n : ℕ) (made : List Label) → EachIs Label has made
@@ -199,7 +232,7 @@ module _ (c : Card) (few : c .directory .count ≤ 16) (less : c .directory .num
   unfolding goodFolderGiven goodRights
   folder-data = refl
 
-  file-data : goodContents (fileGiven now k) ≡ (goodSize x && (goodRight (x .read) && goodRight (x .write)))
+  file-data : goodContents (fileGiven now k) ≡ (goodSize x && (goodFileRight (x .read) && goodFileRight (x .write)))
   unfolding fileGiven
   file-data = label-contents (fileGiven now k)
 

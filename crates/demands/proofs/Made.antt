@@ -2,7 +2,7 @@
 use Prim.Native.Nat.{ℕ, _+_, _-_, _<_}
 use mathlib.Core.Bool.{Bool, true, false, cond}
 use mathlib.Core.List.{List}
-use mathlib.Core.Path.{_≡_, refl, ap, _∙_}
+use mathlib.Core.Path.{_≡_, refl, ap, subst, _∙_}
 use native.Mathlib.Omega.{arith}
 use lib.ListN.{length, set}
 use lib.Seq.{getD-set-same, getD-set-other}
@@ -15,23 +15,25 @@ use Rattle.files.proofs.Checks.{split}
 use Rattle.files.proofs.Extents.{file-set}
 use Rattle.files.proofs.Kept.{filed}
 use Rattle.files.proofs.Making as making
+use Rattle.rules.specs.declared.Credential.{Credential}
 use Rattle.rules.specs.declared.Card.{Card}
 use Rattle.rules.specs.declared.Ins.{Ins}
 use Rattle.rules.specs.Words.{same}
-use Rattle.rules.specs.State.{logins, challenge}
+use Rattle.rules.specs.State.{logins, challenge, withCredentials}
 use Rattle.rules.specs.Sound.{sound}
 use Rattle.rules.specs.Frame.{Command}
 use Rattle.rules.specs.Effect.{Deed, turns, enters, shows, stores, appends, makes, founds, Touch, nothing, presents, changes, reloads, challenges, Effect}
 use Rattle.rules.specs.Binary.{fileOf}
 use Rattle.rules.specs.Record.{recordFound}
-use Rattle.rules.specs.List.{role, Rule, ofFiles, ofCredentials, rule}
-use Rattle.rules.specs.Step.{did, touched, checks, effectOf, outcome}
+use Rattle.rules.specs.Code.{credentialsAfter, afterCode}
+use Rattle.rules.specs.List.{role, Rule, ofFiles, ofContents, ofCredentials, rule}
+use Rattle.rules.specs.Step.{checksOf, did, touched, checks, effectOf, kept, outcome}
 use Rattle.rules.proofs.Good.{sound-good}
 use Rattle.demands.specs.Ledger.{Tag, Tree, passes, grown}
 use Rattle.demands.specs.Held.{labelOf, tagOf}
 use Rattle.demands.proofs.Trees.{all-passed, each-same}
 use Rattle.demands.proofs.Labels.{Matches, treeBy, each-past, each-again, appended-label}
-use Rattle.demands.proofs.Rows.{ruledBy, Fair, Row, row}
+use Rattle.demands.proofs.Rows.{ruledBy, Fair, Row, row, contents-passed}
 use Rattle.demands.proofs.Files.{compare-by}
 
 -- where the checks pass, of which the one side is told, and where not
@@ -47,14 +49,14 @@ module _ (i : Ins) (c : Card) (area : List ℕ) (h : sound c area ≡ true) (k :
   abbrev d : Directory
   d = c .directory
 
-  deed-tree : (x : Deed) → Fair i c area k x → Same (did c x .card) (treeBy x w)
+  deed-tree : (xs : List Credential) (x : Deed) → Fair i c area k x → Same (did (withCredentials c xs) x .card) (treeBy x w)
   unfolding created founded
-  deed-tree (turns place) q = m
-  deed-tree (enters n) q =
+  deed-tree xs (turns place) q = m
+  deed-tree xs (enters n) q =
       record { count-is = m .count-is; each-label = m .each-label; number-is = m .number-is; each-tag = m .each-tag; current-is = refl }
-  deed-tree (shows place at n) q = m
-  deed-tree (stores place at bytes) q = m
-  deed-tree (appends place bytes) q =
+  deed-tree xs (shows place at n) q = m
+  deed-tree xs (stores place at bytes) q = m
+  deed-tree xs (appends place bytes) q =
       let g = filed d (sound-good c area h .directory) in
       let f = appended (fileOf c place) (length bytes) in
       let in-list : place - 1 < length (d .files) = omega (arith, g .places, g .few, q .fair .entitled .some, q .fair .entitled .low) in
@@ -65,7 +67,7 @@ module _ (i : Ins) (c : Card) (area : List ℕ) (h : sound c area ≡ true) (k :
         each-tag = m .each-tag;
         current-is = m .current-is;
       }
-  deed-tree (makes f) q =
+  deed-tree xs (makes f) q =
       let g = filed d (sound-good c area h .directory) in
       let few : d .count < 16 = making.makes d f 4096 (q .served) .few in
       let in-list : d .count < length (d .files) = omega (arith, g .places, few) in
@@ -79,7 +81,7 @@ module _ (i : Ins) (c : Card) (area : List ℕ) (h : sound c area ≡ true) (k :
         each-tag = m .each-tag;
         current-is = m .current-is;
       }
-  deed-tree (founds x) q =
+  deed-tree xs (founds x) q =
       let g = filed d (sound-good c area h .directory) in
       let few : d .number < 4 = making.founding d x (q .served) .few in
       let in-list : d .number < length (d .folders) = omega (arith, g .folders .places, few) in
@@ -105,14 +107,21 @@ module _ (i : Ins) (c : Card) (area : List ℕ) (h : sound c area ≡ true) (k :
   touch-tree (challenges n) = m
 
   pub outcome-tree : Same (outcome i c (recordFound c area k) k random .card) (grown (role i) (logins c) w k)
-  unfolding outcome effectOf checks
+  unfolding outcome effectOf checks kept
   outcome-tree = go (rule i) (row i)
     where
       go : (r : Rule) → Row i r → Same (ruledBy r c (recordFound c area k) k random .card) (grown (role i) (logins c) w k)
       go (ofFiles t x) q =
           rw (q .tree-is c area h w m k)
           (alike-told (λ (e : Effect) (y : Tree). Same (e .card) y) (passes (t c (recordFound c area k) k) k)
-          (λ e. deed-tree (x c (recordFound c area k) k) (q .fair c area h k (all-passed (t c (recordFound c area k) k) k e))) m)
+          (λ e. deed-tree (c .credentials) (x c (recordFound c area k) k) (q .fair c area h k (all-passed (t c (recordFound c area k) k) k e))) m)
+      go (ofContents f t x) q =
+          rw (q .tree-is (logins c) w k)
+          (split (λ (e : Effect). Same (e .card) w) (passes (checksOf (ofContents f t x) c (recordFound c area k) k) k)
+          (λ e. subst (λ (y : Tree). Same (did (afterCode (f k) c k) (x c (recordFound c area k) k) .card) y)
+          (q .makes-none c (recordFound c area k) k w)
+          (deed-tree (credentialsAfter (f k) c k) (x c (recordFound c area k) k) (contents-passed i c area h k f t x q e)))
+          (λ e. m))
       go (ofCredentials t x) q =
           rw (q .tree-is (logins c) w k)
           (split (λ (e : Effect). Same (e .card) w) (passes (t (logins c) (challenge c) k) k)

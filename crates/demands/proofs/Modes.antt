@@ -17,8 +17,9 @@ use Rattle.rules.specs.Binary.{target, readBinaryChecks, updateBinaryChecks}
 use Rattle.rules.specs.Record.{recordFound, readRecordChecks, updateRecordChecks, appendChecks}
 use Rattle.rules.specs.Pins.{comparedAt}
 use Rattle.rules.specs.Create.{creationRight, createChecks}
-use Rattle.rules.specs.List.{listed, Rule, ofFiles, ofCredentials, rule}
-use Rattle.rules.specs.Step.{checksOf, did, touched, effectBy, checks, effectOf, ruled, outcome, Stepped, settled, atOnce}
+use Rattle.rules.specs.Code.{codeSw, credentialsAfter, afterCode}
+use Rattle.rules.specs.List.{listed, Rule, ofFiles, ofContents, ofCredentials, rule}
+use Rattle.rules.specs.Step.{checksOf, keptBy, did, touched, effectBy, checks, effectOf, kept, ruled, outcome, Stepped, settled, atOnce}
 use Rattle.demands.specs.Response.{inMode0}
 
 -- the same effect on the card in mode 0
@@ -31,6 +32,7 @@ blindStep s = record { card = inMode0 (s .card); area = s .area; bytes = s .byte
 -- a rule that goes by the card: its checks and its deed
 abbrev Blind : Rule → Type 0
 Blind (ofFiles t d) = (c : Card) (l : Located) (k : Command) → (t (inMode0 c) l k ≡ t c l k) × (d (inMode0 c) l k ≡ d c l k)
+Blind (ofContents f t d) = (c : Card) (l : Located) (k : Command) → (t (inMode0 c) l k ≡ t c l k) × (d (inMode0 c) l k ≡ d c l k)
 Blind (ofCredentials t d) = Unit
 
 blind : (i : Ins) → Blind (rule i)
@@ -79,23 +81,36 @@ module _ (c : Card) where
       go true = refl
       go false = refl
 
+module _ (c : Card) where
+  code-blind : (front : List ℕ) (k : Command) → afterCode front (inMode0 c) k ≡ inMode0 (afterCode front c k)
+  unfolding credentialsAfter
+  code-blind front k = refl
+
   module _ (i : Ins) (l : Located) (k : Command) (random : List ℕ) where
     abbrev swBy : Rule → Card → ℕ
     swBy r x = first (frameSw k ∷ classSw k ∷ first (checksOf r x l k) ∷ [])
 
     outcome-blind : outcome i (inMode0 c) l k random ≡ blindEffect (outcome i c l k random)
-    unfolding outcome effectOf checks
+    unfolding outcome effectOf checks kept
     outcome-blind = go (rule i) (blind i)
       where
         go : (r : Rule) → Blind r
-            → ruled (swBy r (inMode0 c)) (inMode0 c) (effectBy r (inMode0 c) l k random) ≡ blindEffect (ruled (swBy r c) c (effectBy r c l k random))
+            → ruled (swBy r (inMode0 c)) (keptBy r (inMode0 c) k) (effectBy r (inMode0 c) l k random) ≡ blindEffect (ruled (swBy r c) (keptBy r c k) (effectBy r c l k random))
         go (ofFiles t d) q =
             ap₂ (λ (a : List ℕ) (x : Deed). ruled (first (frameSw k ∷ classSw k ∷ first a ∷ [])) (inMode0 c) (did (inMode0 c) x)) (q c l k .0) (q c l k .1)
-            ∙ ap (ruled (swBy (ofFiles t d) c) (inMode0 c)) (did-blind (d c l k))
-            ∙ ruled-blind (swBy (ofFiles t d) c) (did c (d c l k))
+            ∙ ap (ruled (swBy (ofFiles t d) c) (inMode0 c)) (did-blind c (d c l k))
+            ∙ ruled-blind c (swBy (ofFiles t d) c) (did c (d c l k))
+        go (ofContents f t d) q =
+            let v = afterCode (f k) c k in
+            let s = swBy (ofContents f t d) c in
+            ap₂ (λ (a : List ℕ) (x : Deed). ruled (first (frameSw k ∷ classSw k ∷ first (first (f k) ∷ codeSw (logins c) (challenge c) k ∷ a) ∷ []))
+            (afterCode (f k) (inMode0 c) k) (did (afterCode (f k) (inMode0 c) k) x)) (q c l k .0) (q c l k .1)
+            ∙ ap (λ (z : Card). ruled s z (did z (d c l k))) (code-blind (f k) k)
+            ∙ ap (ruled s (inMode0 v)) (did-blind v (d c l k))
+            ∙ ruled-blind v s (did v (d c l k))
         go (ofCredentials t d) q =
-            ap (ruled (swBy (ofCredentials t d) c) (inMode0 c)) (touched-blind (d (logins c) (challenge c) k) random)
-            ∙ ruled-blind (swBy (ofCredentials t d) c) (touched c (d (logins c) (challenge c) k) random)
+            ap (ruled (swBy (ofCredentials t d) c) (inMode0 c)) (touched-blind c (d (logins c) (challenge c) k) random)
+            ∙ ruled-blind c (swBy (ofCredentials t d) c) (touched c (d (logins c) (challenge c) k) random)
 
   found-blind : (area : List ℕ) (k : Command) → recordFound (inMode0 c) area k ≡ recordFound c area k
   unfolding recordFound target

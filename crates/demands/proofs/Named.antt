@@ -21,7 +21,7 @@ use Rattle.files.proofs.Sought.{seek-low, seek-found, seek-absent, fid-found, s
 use Rattle.files.proofs.Folders.{folder-alone}
 use Rattle.files.proofs.Kept.{filed}
 use Rattle.rules.specs.declared.Card.{Card}
-use Rattle.rules.specs.State.{Which, device, admin, user, numberOf, login}
+use Rattle.rules.specs.State.{Which, device, admin, user, transport, numberOf, login}
 use Rattle.rules.specs.Sound.{sound}
 use Rattle.rules.specs.Binary.{target, opens}
 use Rattle.rules.proofs.Checks.{one-of, either}
@@ -195,6 +195,7 @@ module _ (c : Card) (byte : ℕ) where
       go e device q = eqb-true _ _ (asks-one byte dev (e .1 .1) q)
       go e admin q = eqb-true _ _ (asks-one (byte / 128) adm (e .0) q)
       go e user q = eqb-true _ _ (asks-one (byte / 64) usr (e .1 .0) q)
+      go e transport q = absurd (omega (arith, q))
 
   asked-all : ((w : Which) → bitOf w byte ≡ 1 → rightNo c (numberOf w) ≡ 1) → allHeld (login device c .held) (login admin c .held) (login user c .held) byte ≡ true
   unfolding allHeld
@@ -216,6 +217,7 @@ module _ (c : Card) (byte : ℕ) where
   asked-one device q r = either (grants (adminBit byte) adm) (either (grants (userBit byte) usr) (one-grants byte dev q (eq-eqb _ _ r)))
   asked-one admin q r = rw (one-grants (byte / 128) adm q (eq-eqb _ _ r))
   asked-one user q r = either (grants (adminBit byte) adm) (rw (one-grants (byte / 64) usr q (eq-eqb _ _ r)))
+  asked-one transport q r = absurd (omega (arith, q))
 
   pub opens-asked : opens c byte ≡ true → Opens (heldOn c) byte
   unfolding allowed

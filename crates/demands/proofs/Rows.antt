@@ -1,58 +1,64 @@
 -- What each command's rule is against its role, a clause for each command. All other proofs go by the rule: what a command does to the files, or to the
 -- credentials.
 use Prim.Native.Nat.{ℕ, _+_, _≤_}
-use mathlib.Core.Bool.{Bool, true, false, cond, not, _&&_}
+use mathlib.Core.Bool.{Bool, true, false, cond, not, _&&_, _||_}
 use mathlib.Core.List.{List, [], _∷_}
 use mathlib.Core.Path.{_≡_, refl, sym, ap, ap₂, _∙_}
 use native.Mathlib.Omega.{arith}
 use lib.ListN.{length, take}
 use lib.Dec.{eqb, leb}
-use borrow.Author.Tests.{eqb-true, not-true}
+use borrow.Author.Tests.{eqb-true, eq-eqb, not-true}
 use Rattle.files.specs.declared.File.{File}
 use Rattle.files.specs.declared.Folder.{Folder}
 use Rattle.files.specs.declared.Located.{Located}
 use Rattle.files.specs.Words.{isZero}
 use Rattle.files.specs.Types.{binary, isVariable, size}
+use Rattle.files.specs.Rights.{asksCode}
 use Rattle.files.specs.Directory.{extent}
 use Rattle.files.specs.Record.{nextStart, entry, appended, appendsRecord}
 use Rattle.files.specs.Create.{areaSize, creates}
 use Rattle.files.specs.Create as directory
-use Rattle.files.proofs.Checks.{both, split}
+use Rattle.files.proofs.Checks.{clash, both, split}
 use Rattle.files.proofs.Parting.{Stored, stored-plain}
 use Rattle.files.proofs.Served.{binary-fits}
 use Rattle.files.proofs.Kept.{filed}
+use Rattle.rules.specs.declared.Credential.{Credential}
 use Rattle.rules.specs.declared.Card.{Card}
 use Rattle.rules.specs.declared.Ins.{Ins}
 use Rattle.rules.specs.declared.Ins.the-variants.{Select, ReadBinary, UpdateBinary, ReadRecord, UpdateRecord, AppendRecord, Verify, Authenticate, ChangePin, ReloadPin, CreateFile, GetChallenge, GetResponse, Unlisted}
 use Rattle.rules.specs.Words.{unless, first, allOf}
-use Rattle.rules.specs.State.{Which, admin, user, device, numberOf, Login, Logins, logins, challenge}
+use Rattle.rules.specs.State.{Which, admin, user, device, transport, numberOf, Login, Logins, logins, challenge, withCredentials}
 use Rattle.rules.specs.Sound.{digit, isKey, goodPin, goodChallenge, sound}
-use Rattle.rules.specs.Frame.{Command, lc, frameSw, classSw}
+use Rattle.rules.specs.Frame.{Command, lc, coded, framed, frameSw, classSw}
 use Rattle.rules.specs.Effect.{Deed, turns, enters, shows, stores, appends, makes, founds, Touch, nothing, presents, changes, reloads, challenges, Effect, answers}
 use Rattle.rules.specs.Select.{selected, selectChecks, selectDeed}
-use Rattle.rules.specs.Binary.{target, fileOf, fileSw, opens, rightSw, offset, binaryTarget, readCount, readBinaryChecks, updateBinaryChecks}
+use Rattle.rules.specs.Binary.{target, fileOf, fileSw, opens, rightSw, askedSw, offset, binaryTarget, readCount, readBinaryChecks, updateBinaryChecks}
 use Rattle.rules.specs.Record.{recordTarget, recordFound, readRecordChecks, updateRecordChecks, appendChecks}
 use Rattle.rules.specs.Pins.{whichOf, pinNamed, pinGiven, triesSw, digitsSw, verifyChecks, changeChecks, reloadChecks}
-use Rattle.rules.specs.Device.{authenticateChecks, getChallengeChecks}
+use Rattle.rules.specs.Device.{challengeSw, authenticateChecks, getChallengeChecks}
+use Rattle.rules.specs.Code.{expected, codeSw, credentialsAfter}
 use Rattle.rules.specs.Create.{isFolder, creationRight, createChecks, createDeed}
-use Rattle.rules.specs.List.{selects, makesFile, role, Rule, ofFiles, ofCredentials, rule}
-use Rattle.rules.specs.Step.{checksOf, did, touched, effectBy, checks, effectOf, ruled, outcome}
-use Rattle.rules.proofs.Checks.{Passed, passed, holds, ruled-by}
+use Rattle.rules.specs.List.{selects, makesFile, role, Rule, ofFiles, ofContents, ofCredentials, rule}
+use Rattle.rules.specs.Step.{checksOf, keptBy, did, touched, effectBy, checks, effectOf, kept, ruled, outcome}
+use Rattle.rules.proofs.Checks.{Passed, passed, passing, holds, one-of, ruled-by}
 use Rattle.rules.proofs.Good.{Lies, Good, sound-good}
+use Rattle.rules.proofs.Coded.{coded-good, code-agreed}
 use Rattle.rules.proofs.Targets.{not-zero, read-few, target-low, target-lies, selected-low, selected-lies, entered-low}
 use Rattle.rules.proofs.Asked.{some-file, binary-asked, create-asked, found-asked, found-in-root, pin-asked, challenge-asked}
 use Rattle.rules.proofs.Found.{read-fits, read-long, update-fits, update-stored, append-fits, append-stored}
 use Rattle.rules.proofs.Found as found
-use Rattle.rules.proofs.Equal.{cryptogram-is}
-use Rattle.demands.specs.Ledger.{Kind, other, changed, reloaded, Tree, pinSent, inDigits, presentAsks, keyAsks, changeAsks, reloadAsks, challengeAsks, response, passes, presented, about, kind, challenged, labelGiven, tagGiven, grown, pinOf}
+use Rattle.rules.proofs.Equal.{same-equal, cryptogram-is}
+use Rattle.demands.specs.Ledger.{Kind, other, right as rightly, changed, reloaded, Tree, pinSent, inDigits, presentAsks, keyAsks, changeAsks, reloadAsks, challengeAsks, response, passes, presented, about, kind, challenged, labelGiven, tagGiven, grown, pinOf, binaryP, recordP, appendP}
 use Rattle.demands.specs.Held.{labelOf, tagOf}
 use Rattle.demands.proofs.Trees.{all-passed}
+use Rattle.demands.proofs.Presented.{right-is-equal}
+use Rattle.demands.proofs.Coding.{codeBy, read-same, write-same}
 use Rattle.demands.proofs.Labels.{Matches, treeBy, given-label, given-tag, create-same, create-leaves, select-same, select-leads}
 use Rattle.demands.proofs.Addressed.{writesTo, readsFrom}
 
 -- what comes of a command by its rule
 abbrev pub ruledBy : Rule → Card → Located → Command → List ℕ → Effect
-ruledBy r c l k random = ruled (first (frameSw k ∷ classSw k ∷ first (checksOf r c l k) ∷ [])) c (effectBy r c l k random)
+ruledBy r c l k random = ruled (first (frameSw k ∷ classSw k ∷ first (checksOf r c l k) ∷ [])) (keptBy r c k) (effectBy r c l k random)
 
 -- what a touch is to a credential, and the challenge that it leaves
 abbrev pub kindOf : Touch → Which → Kind
@@ -69,6 +75,12 @@ leftBy (changes v d) random = []
 leftBy (reloads v d) random = []
 leftBy (challenges n) random = take n random
 
+-- what a command is to a credential by its rule
+abbrev pub kindBy : Rule → Logins → List ℕ → Command → Which → Kind
+kindBy (ofFiles t d) l ch k w = other
+kindBy (ofContents f t d) l ch k w = about transport w (codeBy (f k) l ch k)
+kindBy (ofCredentials t d) l ch k w = cond (passes (t l ch k) k) (kindOf (d l ch k) w) other
+
 -- what a touch has by the checks: a try left; a PIN, its right held, and a good one given; the user PIN, the admin right held, and a good one given; a
 -- challenge of 4, 8 or 16 bytes
 abbrev pub FairTouch : Logins → Touch → Type 0
@@ -78,28 +90,30 @@ FairTouch l (changes w d) = (isKey (numberOf w) ≡ false) × (l w .held ≡ tru
 FairTouch l (reloads w d) = (w ≡ user) × (l admin .held ≡ true) × (goodPin d ≡ true)
 FairTouch l (challenges n) = goodChallenge n ≡ true
 
--- a file that is there, is the one that the command addresses, lies in the current directory, and whose right is held
-pub record Entitled (c : Card) (named place right : ℕ) : Type 0 where
+-- a file that is there, is the one that the command addresses, lies in the current directory, and whose right is held; where it asks for a code, x, what the
+-- command is to the transport key, is a right presentation
+pub record Entitled (x : Kind) (c : Card) (named place right : ℕ) : Type 0 where
   pub named-is : named ≡ place
   pub some : 1 ≤ place
   pub low : place ≤ c .directory .count
   pub lies : Lies (c .directory) place (c .session .folder)
   pub held : opens c right ≡ true
+  pub by-code : asksCode right ≡ true → x ≡ rightly
 
-pub record FairShow (c : Card) (k : Command) (named place at n : ℕ) : Type 0 where
-  pub entitled : Entitled c named place (fileOf c place .read)
+pub record FairShow (x : Kind) (c : Card) (k : Command) (named place at n : ℕ) : Type 0 where
+  pub entitled : Entitled x c named place (fileOf c place .read)
   pub fits : at + n ≤ size (fileOf c place)
   pub few : k .le ≤ 256 → n ≤ 256
 
 -- bytes that leave the file parted, which is then f
-pub record FairStore (c : Card) (area : List ℕ) (named place at : ℕ) (f : File) (bytes : List ℕ) : Type 0 where
-  pub entitled : Entitled c named place (fileOf c place .write)
+pub record FairStore (x : Kind) (c : Card) (area : List ℕ) (named place at : ℕ) (f : File) (bytes : List ℕ) : Type 0 where
+  pub entitled : Entitled x c named place (fileOf c place .write)
   pub fits : at + length bytes ≤ size (fileOf c place)
   pub stored : Stored (fileOf c place) f (extent (c .directory) place area) at bytes
 
-pub record FairAppend (c : Card) (area : List ℕ) (named place : ℕ) (d : List ℕ) : Type 0 where
+pub record FairAppend (x : Kind) (c : Card) (area : List ℕ) (named place : ℕ) (d : List ℕ) : Type 0 where
   pub fair :
-      FairStore c area named place (nextStart (fileOf c place)) (appended (fileOf c place) (length d)) (entry (fileOf c place) d)
+      FairStore x c area named place (nextStart (fileOf c place)) (appended (fileOf c place) (length d)) (entry (fileOf c place) d)
   pub served : appendsRecord (fileOf c place) (length d) ≡ true
 
 -- a file that becomes current: it is there, and in the current directory
@@ -120,29 +134,40 @@ pub record FairFound (i : Ins) (c : Card) (k : Command) (x : Folder) : Type 0 wh
   pub given : tagOf x ≡ tagGiven k
   pub served : directory.founds (c .directory) x ≡ true
 
+-- what a command is to the transport key
+abbrev pub codeIn : Ins → Card → Command → Kind
+codeIn i c k = kindBy (rule i) (logins c) (challenge c) k transport
+
 -- what a deed has by the checks, on a sound card
 abbrev pub Fair : Ins → Card → List ℕ → Command → Deed → Type 0
 Fair i c area k (turns place) = FairTurn c place
 Fair i c area k (enters n) = n ≤ c .directory .number
-Fair i c area k (shows place at n) = FairShow c k (readsFrom (role i) c k) place at n
-Fair i c area k (stores place at d) = FairStore c area (writesTo (role i) c k) place at (fileOf c place) d
-Fair i c area k (appends place d) = FairAppend c area (writesTo (role i) c k) place d
+Fair i c area k (shows place at n) = FairShow (codeIn i c k) c k (readsFrom (role i) c k) place at n
+Fair i c area k (stores place at d) = FairStore (codeIn i c k) c area (writesTo (role i) c k) place at (fileOf c place) d
+Fair i c area k (appends place d) = FairAppend (codeIn i c k) c area (writesTo (role i) c k) place d
 Fair i c area k (makes f) = FairMake i c k f
 Fair i c area k (founds x) = FairFound i c k x
 
--- a rule of files is nothing to the ledger's credentials, it makes what its deed makes, where the checks pass, and its deed is fair
+-- a rule of files makes what its deed makes, where the checks pass, and its deed is fair
 pub record FileRow (i : Ins) (t : Card → Located → Command → List ℕ) (d : Card → Located → Command → Deed) : Type 0 where
-  pub kind-is : (l : Logins) (ch : List ℕ) (k : Command) (w : Which) → kind (role i) l ch k w ≡ other
   pub left-is : (k : Command) (random : List ℕ) → challenged (role i) k random ≡ []
   pub tree-is : (c : Card) (area : List ℕ) → sound c area ≡ true → (w : Tree) → Matches (c .directory) (c .session .folder) w → (k : Command)
       → grown (role i) (logins c) w k ≡ cond (passes (t c (recordFound c area k) k) k) (treeBy (d c (recordFound c area k) k) w) w
   pub fair : (c : Card) (area : List ℕ) → sound c area ≡ true → (k : Command) → Passed (t c (recordFound c area k) k)
       → Fair i c area k (d c (recordFound c area k) k)
 
--- a rule of credentials is to the ledger what its touch is, where the checks pass, it makes no file, and its touch is fair
+-- a rule of a file's contents is to the transport key what its code is, it makes nothing, and its deed is fair
+pub record ContentsRow (i : Ins) (f : Command → List ℕ) (t : Card → Located → Command → List ℕ) (d : Card → Located → Command → Deed) : Type 0 where
+  pub code-is : (c : Card) (k : Command) → codeIn i c k ≡ codeBy (f k) (logins c) (challenge c) k
+  pub left-is : (k : Command) (random : List ℕ) → challenged (role i) k random ≡ []
+  pub tree-is : (l : Logins) (w : Tree) (k : Command) → grown (role i) l w k ≡ w
+  pub makes-none : (c : Card) (l : Located) (k : Command) (w : Tree) → treeBy (d c l k) w ≡ w
+  pub fair : (c : Card) (area : List ℕ) → sound c area ≡ true → (k : Command) (x : Kind)
+      → ((right : ℕ) → askedSw right k ≡ 0x9000 → asksCode right ≡ true → x ≡ rightly) → codeIn i c k ≡ x
+      → Passed (t c (recordFound c area k) k) → Fair i c area k (d c (recordFound c area k) k)
+
+-- a rule of credentials makes no file, and its touch is fair
 pub record TouchRow (i : Ins) (t : Logins → List ℕ → Command → List ℕ) (d : Logins → List ℕ → Command → Touch) : Type 0 where
-  pub kind-is : (l : Logins) (ch : List ℕ) (k : Command) (w : Which)
-      → kind (role i) l ch k w ≡ cond (passes (t l ch k) k) (kindOf (d l ch k) w) other
   pub left-is : (l : Logins) (ch : List ℕ) (k : Command) (random : List ℕ)
       → challenged (role i) k random ≡ cond (passes (t l ch k) k) (leftBy (d l ch k) random) []
   pub tree-is : (l : Logins) (w : Tree) (k : Command) → grown (role i) l w k ≡ w
@@ -150,6 +175,7 @@ pub record TouchRow (i : Ins) (t : Logins → List ℕ → Command → List ℕ)
 
 abbrev pub Row : Ins → Rule → Type 0
 Row i (ofFiles t d) = FileRow i t d
+Row i (ofContents f t d) = ContentsRow i f t d
 Row i (ofCredentials t d) = TouchRow i t d
 
 -- a binary file has no length bytes
@@ -157,14 +183,17 @@ binary-plain : (f : File) → unless (eqb (f .kind) binary) 0x6981 ≡ 0x9000 �
 binary-plain f h = let e : f .kind ≡ binary = eqb-true _ _ (holds (eqb (f .kind) binary) 0x6981 refl h) in rw e
 
 -- what the passed checks tell of the file that a command addresses
-module _ (c : Card) (area : List ℕ) (h : sound c area ≡ true) (k : Command) where
-  entitled : (sfi byte : ℕ) → fileSw (target c sfi) ≡ 0x9000 → rightSw c byte ≡ 0x9000 → Entitled c (target c sfi) (target c sfi) byte
-  entitled sfi byte f r = record {
+module _ (x : Kind) (c : Card) (area : List ℕ) (h : sound c area ≡ true) (k : Command)
+    (by-code : (right : ℕ) → askedSw right k ≡ 0x9000 → asksCode right ≡ true → x ≡ rightly) where
+  entitled : (sfi byte : ℕ) → fileSw (target c sfi) ≡ 0x9000 → rightSw c byte ≡ 0x9000 → askedSw byte k ≡ 0x9000
+      → Entitled x c (target c sfi) (target c sfi) byte
+  entitled sfi byte f r a = record {
     named-is = refl;
     some = some-file (target c sfi) f;
     low = target-low c (sound-good c area h) sfi;
     lies = target-lies c (sound-good c area h) sfi;
     held = holds (opens c byte) 0x6982 refl r;
+    by-code = by-code byte a;
   }
 
   -- the file that a binary command addresses, and that of a record command
@@ -177,58 +206,59 @@ module _ (c : Card) (area : List ℕ) (h : sound c area ≡ true) (k : Command) 
   abbrev l : Located
   l = recordFound c area k
 
-  binary-read : Passed (readBinaryChecks c k) → FairShow c k b b (offset k) (readCount (fileOf c b) k)
+  binary-read : Passed (readBinaryChecks c k) → FairShow x c k b b (offset k) (readCount (fileOf c b) k)
   unfolding readBinaryChecks
   binary-read p =
       let n = readCount (fileOf c b) k in
       record {
-        entitled = entitled _ _ (p .1 .1 .0) (p .1 .1 .1 .1 .0);
-        fits = binary-fits _ (offset k) n (binary-asked c b _ (offset k) n (p .1 .1));
+        entitled = entitled _ _ (p .0) (p .1 .1 .0) (p .1 .1 .1 .0);
+        fits = binary-fits _ (offset k) n (binary-asked c k b _ (offset k) n p);
         few = read-few (fileOf c b) k;
       }
 
-  binary-update : Passed (updateBinaryChecks c k) → FairStore c area b b (offset k) (fileOf c b) (k .given)
+  binary-update : Passed (updateBinaryChecks c k) → FairStore x c area b b (offset k) (fileOf c b) (k .given)
   unfolding updateBinaryChecks
   binary-update p = record {
-    entitled = entitled _ _ (p .1 .1 .0) (p .1 .1 .1 .1 .0);
-    fits = binary-fits _ (offset k) (lc k) (binary-asked c b _ (offset k) (lc k) (p .1 .1));
-    stored = stored-plain _ _ _ _ _ (binary-plain (fileOf c b) (p .1 .1 .1 .0));
+    entitled = entitled _ _ (p .0) (p .1 .1 .0) (p .1 .1 .1 .0);
+    fits = binary-fits _ (offset k) (lc k) (binary-asked c k b _ (offset k) (lc k) p);
+    stored = stored-plain _ _ _ _ _ (binary-plain (fileOf c b) (p .1 .0));
   }
 
-  record-read : Passed (readRecordChecks c l k) → FairShow c k t t (l .start) (l .length)
+  record-read : Passed (readRecordChecks c l k) → FairShow x c k t t (l .start) (l .length)
   unfolding readRecordChecks
   record-read p =
-      let some = some-file t (p .1 .1 .0) in
+      let some = some-file t (p .0) in
       let long = read-long c area h k some p in
       record {
-        entitled = entitled _ _ (p .1 .1 .0) (p .1 .1 .1 .1 .0);
+        entitled = entitled _ _ (p .0) (p .1 .1 .0) (p .1 .1 .1 .0);
         fits = read-fits c area h k some p;
         few = λ m. omega (arith, long);
       }
 
-  record-update : Passed (updateRecordChecks c l k) → FairStore c area t t (l .start) (fileOf c t) (k .given)
+  record-update : Passed (updateRecordChecks c l k) → FairStore x c area t t (l .start) (fileOf c t) (k .given)
   unfolding updateRecordChecks
   record-update p =
-      let some = some-file t (p .1 .1 .0) in
+      let some = some-file t (p .0) in
       record {
-        entitled = entitled _ _ (p .1 .1 .0) (p .1 .1 .1 .1 .0);
+        entitled = entitled _ _ (p .0) (p .1 .1 .0) (p .1 .1 .1 .0);
         fits = update-fits c area h k some p;
         stored = update-stored c area h k some p;
       }
 
-  record-append : Passed (appendChecks c k) → FairAppend c area t t (k .given)
+  record-append : Passed (appendChecks c k) → FairAppend x c area t t (k .given)
   unfolding appendChecks
   record-append p =
-      let some = some-file t (p .1 .1 .0) in
+      let some = some-file t (p .0) in
       record {
         fair = record {
-          entitled = entitled _ _ (p .1 .1 .0) (p .1 .1 .1 .1 .0);
+          entitled = entitled _ _ (p .0) (p .1 .1 .0) (p .1 .1 .1 .0);
           fits = append-fits c area h k some p;
           stored = append-stored c area h k some p;
         };
         served = found.appends c area h k some p;
       }
 
+module _ (c : Card) (area : List ℕ) (h : sound c area ≡ true) (k : Command) where
   -- what a CREATE FILE makes
   created : Passed (createChecks c k) → Fair CreateFile c area k (createDeed c k)
   unfolding createChecks
@@ -244,8 +274,26 @@ module _ (c : Card) (area : List ℕ) (h : sound c area ≡ true) (k : Command) 
       let g = sound-good c area h in
       split (Fair Select c area k) (isZero (selected c k)) (λ e. entered-low c g k) (λ e. record { low = selected-low c g k; lies = selected-lies c g k })
 
+-- where a command with a code passes P, case and code, it is a right presentation
+module _ (front : List ℕ) (l : Logins) (ch : List ℕ) (k : Command) (a : frameSw k ≡ 0x9000) (b : classSw k ≡ 0x9000)
+    (f : first front ≡ 0x9000) (s : codeSw l ch k ≡ 0x9000) where
+  pub code-right : coded k ≡ true → codeBy front l ch k ≡ rightly
+  code-right e =
+      let q = code-agreed l ch k s e in
+      let t = passing (frameSw k ∷ classSw k ∷ first front ∷ triesSw (l transport) ∷ challengeSw ch ∷ []) (a, (b, (f, (q .tries, (q .challenge, tt))))) in
+      taken (coded k) (passes (first front ∷ triesSw (l transport) ∷ challengeSw ch ∷ []) k) _ _ e (eq-eqb _ _ t)
+      ∙ right-is-equal (expected l ch k) (k .code) .1 (same-equal (expected l ch k) (k .code) (q .agreed))
+    where
+      taken : (x y : Bool) (a b : Kind) → x ≡ true → y ≡ true → cond (x && y) a b ≡ a
+      taken x y a b p q = rw (p, q)
+
+  code-asked : (right : ℕ) → askedSw right k ≡ 0x9000 → asksCode right ≡ true → codeBy front l ch k ≡ rightly
+  code-asked right h e =
+      one-of (not (asksCode right)) (coded k) (holds (not (asksCode right) || coded k) 0x6982 refl h)
+      (λ z. clash (asksCode right) e (not-true (asksCode right) z)) code-right
+
 -- a try is left
-try-left : (l : Login) → triesSw l ≡ 0x9000 → 1 ≤ l .tries .left
+pub try-left : (l : Login) → triesSw l ≡ 0x9000 → 1 ≤ l .tries .left
 try-left l h = not-zero (l .tries .left) (not-true (isZero (l .tries .left)) (holds (not (isZero (l .tries .left))) 0x6983 refl h))
 
 -- P2 names a PIN
@@ -362,120 +410,172 @@ module _ (l : Logins) (k : Command) where
       go true e = rw (no-data e) (either-way (passes (verifyChecks l k) k) other)
       go false e = ap (λ sw. cond (eqb (first (frameSw k ∷ classSw k ∷ sw ∷ [])) 0x9000) x other) (with-data e)
 
+-- the ledger's own words for each command say what its rule says
+pub kind-same : (i : Ins) (l : Logins) (ch cmd : List ℕ) (w : Which) → kind (role i) l ch cmd w ≡ kindBy (rule i) l ch (framed cmd) w
+unfolding rule kind
+kind-same Select l ch cmd w = refl
+kind-same ReadBinary l ch cmd w = ap (about transport w) (read-same (binaryP (framed cmd)) l ch cmd)
+kind-same UpdateBinary l ch cmd w = ap (about transport w) (write-same (binaryP (framed cmd)) l ch cmd)
+kind-same ReadRecord l ch cmd w = ap (about transport w) (read-same (recordP (framed cmd)) l ch cmd)
+kind-same UpdateRecord l ch cmd w = ap (about transport w) (write-same (recordP (framed cmd)) l ch cmd)
+kind-same AppendRecord l ch cmd w = ap (about transport w) (write-same (appendP (framed cmd)) l ch cmd)
+kind-same Verify l ch cmd w =
+    let k = framed cmd in
+    ap (λ (x : Which). cond (passes (presentAsks (l x) k) k) (about x w (presented (l x .value) (k .given))) other) (pin-same k)
+    ∙ verify-same l k (about (pinNamed k) w (presented (l (pinNamed k) .value) (k .given)))
+    ∙ ap (λ x. cond (passes (verifyChecks l k) k) x other) (query-kind (eqb (k .case) 1) (pinNamed k) (l (pinNamed k) .value) (k .given) w)
+kind-same Authenticate l ch cmd w =
+    let k = framed cmd in
+    ap (λ (t : List ℕ). cond (passes t k) (about device w (presented (response (l device .value) ch) (k .given))) other) (key-same l ch k)
+    ∙ ap (λ (x : List ℕ). cond (passes (authenticateChecks l ch k) k) (about device w (presented x (k .given))) other) (sym (cryptogram-is (l device .value) ch))
+kind-same ChangePin l ch cmd w =
+    let k = framed cmd in
+    ap (λ (x : Which). cond (passes (changeAsks (l x) k) k) (about x w (changed (k .given))) other) (pin-same k)
+    ∙ ap (λ (t : List ℕ). cond (passes t k) (about (pinNamed k) w (changed (k .given))) other) (change-same l k)
+kind-same ReloadPin l ch cmd w =
+    let k = framed cmd in ap (λ (t : List ℕ). cond (passes t k) (about user w (reloaded (k .given))) other) (reload-same l k)
+kind-same CreateFile l ch cmd w = refl
+kind-same GetChallenge l ch cmd w = either-way (passes (getChallengeChecks (framed cmd)) (framed cmd)) other
+kind-same GetResponse l ch cmd w = either-way (passes (0x6D00 ∷ []) (framed cmd)) other
+kind-same Unlisted l ch cmd w = either-way (passes (0x6D00 ∷ []) (framed cmd)) other
+
 pub row : (i : Ins) → Row i (rule i)
-unfolding rule kind challenged grown writesTo readsFrom
+unfolding rule challenged grown writesTo readsFrom
 row Select = record {
-  kind-is = λ l ch k w. refl;
   left-is = λ k random. refl;
   tree-is = λ c area h w m k. turned-tree c area h w m k;
   fair = λ c area h k p. turned c area h k;
 }
 row ReadBinary = record {
-  kind-is = λ l ch k w. refl;
+  code-is = λ c k. refl;
   left-is = λ k random. refl;
-  tree-is = λ c area h w m k. either-way (passes (readBinaryChecks c k) k) w;
-  fair = λ c area h k p. binary-read c area h k p;
+  tree-is = λ l w k. refl;
+  makes-none = λ c l k w. refl;
+  fair = λ c area h k x b e p. rw e (binary-read x c area h k b p);
 }
 row UpdateBinary = record {
-  kind-is = λ l ch k w. refl;
+  code-is = λ c k. refl;
   left-is = λ k random. refl;
-  tree-is = λ c area h w m k. either-way (passes (updateBinaryChecks c k) k) w;
-  fair = λ c area h k p. binary-update c area h k p;
+  tree-is = λ l w k. refl;
+  makes-none = λ c l k w. refl;
+  fair = λ c area h k x b e p. rw e (binary-update x c area h k b p);
 }
 row ReadRecord = record {
-  kind-is = λ l ch k w. refl;
+  code-is = λ c k. refl;
   left-is = λ k random. refl;
-  tree-is = λ c area h w m k. either-way (passes (readRecordChecks c (recordFound c area k) k) k) w;
-  fair = λ c area h k p. record-read c area h k p;
+  tree-is = λ l w k. refl;
+  makes-none = λ c l k w. refl;
+  fair = λ c area h k x b e p. rw e (record-read x c area h k b p);
 }
 row UpdateRecord = record {
-  kind-is = λ l ch k w. refl;
+  code-is = λ c k. refl;
   left-is = λ k random. refl;
-  tree-is = λ c area h w m k. either-way (passes (updateRecordChecks c (recordFound c area k) k) k) w;
-  fair = λ c area h k p. record-update c area h k p;
+  tree-is = λ l w k. refl;
+  makes-none = λ c l k w. refl;
+  fair = λ c area h k x b e p. rw e (record-update x c area h k b p);
 }
 row AppendRecord = record {
-  kind-is = λ l ch k w. refl;
+  code-is = λ c k. refl;
   left-is = λ k random. refl;
-  tree-is = λ c area h w m k. either-way (passes (appendChecks c k) k) w;
-  fair = λ c area h k p. record-append c area h k p;
+  tree-is = λ l w k. refl;
+  makes-none = λ c l k w. refl;
+  fair = λ c area h k x b e p. rw e (record-append x c area h k b p);
 }
 row Verify = record {
-  kind-is = λ l ch k w.
-      ap (λ (x : Which). cond (passes (presentAsks (l x) k) k) (about x w (presented (l x .value) (k .given))) other) (pin-same k)
-      ∙ verify-same l k (about (pinNamed k) w (presented (l (pinNamed k) .value) (k .given)))
-      ∙ ap (λ x. cond (passes (verifyChecks l k) k) x other) (query-kind (eqb (k .case) 1) (pinNamed k) (l (pinNamed k) .value) (k .given) w);
   left-is = λ l ch k random. query-left (eqb (k .case) 1) (pinNamed k) (l (pinNamed k) .value) (k .given) (passes (verifyChecks l k) k) random;
   tree-is = λ l w k. refl;
   fair = λ l ch k p. pin-presented l k p;
 }
 row Authenticate = record {
-  kind-is = λ l ch k w.
-      ap (λ (t : List ℕ). cond (passes t k) (about device w (presented (response (l device .value) ch) (k .given))) other) (key-same l ch k)
-      ∙ ap (λ (x : List ℕ). cond (passes (authenticateChecks l ch k) k) (about device w (presented x (k .given))) other) (sym (cryptogram-is (l device .value) ch));
   left-is = λ l ch k random. either-way (passes (authenticateChecks l ch k) k) [];
   tree-is = λ l w k. refl;
   fair = λ l ch k p. key-presented l k ch p;
 }
 row ChangePin = record {
-  kind-is = λ l ch k w.
-      ap (λ (x : Which). cond (passes (changeAsks (l x) k) k) (about x w (changed (k .given))) other) (pin-same k)
-      ∙ ap (λ (t : List ℕ). cond (passes t k) (about (pinNamed k) w (changed (k .given))) other) (change-same l k);
   left-is = λ l ch k random. either-way (passes (changeChecks l k) k) [];
   tree-is = λ l w k. refl;
   fair = λ l ch k p. pin-changed l k p;
 }
 row ReloadPin = record {
-  kind-is = λ l ch k w. ap (λ (t : List ℕ). cond (passes t k) (about user w (reloaded (k .given))) other) (reload-same l k);
   left-is = λ l ch k random. either-way (passes (reloadChecks l k) k) [];
   tree-is = λ l w k. refl;
   fair = λ l ch k p. pin-reloaded l k p;
 }
 row CreateFile = record {
-  kind-is = λ l ch k w. refl;
   left-is = λ k random. refl;
   tree-is = λ c area h w m k. made-tree c area h w m k;
   fair = λ c area h k p. created c area h k p;
 }
 row GetChallenge = record {
-  kind-is = λ l ch k w. either-way (passes (getChallengeChecks k) k) other;
   left-is = λ l ch k random. ap (λ (t : List ℕ). cond (passes t k) (take (k .le) random) []) (challenge-same k);
   tree-is = λ l w k. refl;
   fair = λ l ch k p. challenge-asked k p;
 }
 row GetResponse = record {
-  kind-is = λ l ch k w. either-way (passes (0x6D00 ∷ []) k) other;
   left-is = λ l ch k random. either-way (passes (0x6D00 ∷ []) k) [];
   tree-is = λ l w k. refl;
   fair = λ l ch k p. tt;
 }
 row Unlisted = record {
-  kind-is = λ l ch k w. either-way (passes (0x6D00 ∷ []) k) other;
   left-is = λ l ch k random. either-way (passes (0x6D00 ∷ []) k) [];
   tree-is = λ l w k. refl;
   fair = λ l ch k p. tt;
 }
 
--- what holds of each fair deed, of each fair touch and of a refusal holds of the outcome
-pub by-rule : (P : Effect → Type 0) (i : Ins) (c : Card) (area : List ℕ) → sound c area ≡ true → (k : Command) (random : List ℕ)
-    → ((d : Deed) → Fair i c area k d → P (did c d))
-    → ((t : Touch) → FairTouch (logins c) t → P (touched c t random))
-    → ((sw : ℕ) → P (answers sw c))
-    → P (outcome i c (recordFound c area k) k random)
-unfolding checks effectOf
-by-rule P i c area h k random f g n = ruled-by P i c (recordFound c area k) k random (go (rule i) (row i)) n
-  where
-    go : (r : Rule) → Row i r → Passed (checksOf r c (recordFound c area k) k) → P (effectBy r c (recordFound c area k) k random)
-    go (ofFiles t d) q p = f (d c (recordFound c area k) k) (q .fair c area h k p)
-    go (ofCredentials t d) q p = g (d (logins c) (challenge c) k) (q .fair (logins c) (challenge c) k p)
+-- the deed of a rule of contents, where framing, class and every check passed
+pub contents-fair : (i : Ins) (c : Card) (area : List ℕ) → sound c area ≡ true → (k : Command)
+    → (s : Command → List ℕ) (t : Card → Located → Command → List ℕ) (d : Card → Located → Command → Deed) → ContentsRow i s t d
+    → frameSw k ≡ 0x9000 → classSw k ≡ 0x9000 → Passed (checksOf (ofContents s t d) c (recordFound c area k) k)
+    → Fair i c area k (d c (recordFound c area k) k)
+contents-fair i c area h k s t d q a b p =
+    q .fair c area h k (codeBy (s k) (logins c) (challenge c) k) (code-asked (s k) (logins c) (challenge c) k a b (p .0) (p .1 .0)) (q .code-is c k) (p .1 .1)
 
--- what holds of each fair touch, and of nothing at all, holds of what a command is to a credential
-pub kind-by : (P : Kind → Type 0) (i : Ins) (l : Logins) (ch : List ℕ) (k : Command) (w : Which)
-    → P other → ((t : Touch) → FairTouch l t → P (kindOf t w)) → P (kind (role i) l ch k w)
-kind-by P i l ch k w n f = go (rule i) (row i)
+pub contents-passed : (i : Ins) (c : Card) (area : List ℕ) → sound c area ≡ true → (k : Command)
+    → (s : Command → List ℕ) (t : Card → Located → Command → List ℕ) (d : Card → Located → Command → Deed) → ContentsRow i s t d
+    → passes (checksOf (ofContents s t d) c (recordFound c area k) k) k ≡ true → Fair i c area k (d c (recordFound c area k) k)
+contents-passed i c area h k s t d q e =
+    let l = checksOf (ofContents s t d) c (recordFound c area k) k in
+    let p = passed (frameSw k ∷ classSw k ∷ first l ∷ []) (eqb-true _ _ e) in
+    contents-fair i c area h k s t d q (p .0) (p .1 .0) (passed l (p .1 .1 .0))
+
+-- what holds of each fair deed, of each fair touch and of a refusal, on the card as a code leaves it, holds of the outcome
+pub by-rule : (P : Effect → Type 0) (i : Ins) (c : Card) (area : List ℕ) → sound c area ≡ true → (k : Command) (random : List ℕ)
+    → ((xs : List Credential) → Good (withCredentials c xs) → (d : Deed) → Fair i c area k d → P (did (withCredentials c xs) d))
+    → ((t : Touch) → FairTouch (logins c) t → P (touched c t random))
+    → ((xs : List Credential) → Good (withCredentials c xs) → (sw : ℕ) → P (answers sw (withCredentials c xs)))
+    → P (outcome i c (recordFound c area k) k random)
+unfolding checks effectOf kept
+by-rule P i c area h k random f g n = ruled-by P i c (recordFound c area k) k random (go (rule i) (row i)) (refused (rule i))
   where
-    go : (r : Rule) → Row i r → P (kind (role i) l ch k w)
-    go (ofFiles t d) q = rw (q .kind-is l ch k w) n
+    go : (r : Rule) → Row i r → frameSw k ≡ 0x9000 → classSw k ≡ 0x9000 → Passed (checksOf r c (recordFound c area k) k)
+        → P (effectBy r c (recordFound c area k) k random)
+    go (ofFiles t d) q a b p = f (c .credentials) (sound-good c area h) (d c (recordFound c area k) k) (q .fair c area h k p)
+    go (ofContents s t d) q a b p =
+        f (credentialsAfter (s k) c k) (coded-good c (sound-good c area h) (s k) k) (d c (recordFound c area k) k)
+        (contents-fair i c area h k s t d q a b p)
+    go (ofCredentials t d) q a b p = g (d (logins c) (challenge c) k) (q .fair (logins c) (challenge c) k p)
+
+    refused : (r : Rule) (sw : ℕ) → P (answers sw (keptBy r c k))
+    refused (ofFiles t d) sw = n (c .credentials) (sound-good c area h) sw
+    refused (ofContents s t d) sw = n (credentialsAfter (s k) c k) (coded-good c (sound-good c area h) (s k) k) sw
+    refused (ofCredentials t d) sw = n (c .credentials) (sound-good c area h) sw
+
+-- what holds of each fair touch, and of nothing at all, holds of what a command is to a credential: a code is a presentation of the transport key
+pub kind-by : (P : Kind → Type 0) (i : Ins) (l : Logins) (ch cmd : List ℕ) (w : Which)
+    → P other → ((t : Touch) → FairTouch l t → P (kindOf t w)) → P (kind (role i) l ch cmd w)
+kind-by P i l ch cmd w n f = rw (kind-same i l ch cmd w) (go (rule i) (row i))
+  where
+    -- to the others it is nothing either way
+    no-code : P (about transport w other)
+    no-code = split P (eqb (numberOf transport) (numberOf w)) (λ e. n) (λ e. n)
+
+    go : (r : Rule) → Row i r → P (kindBy r l ch (framed cmd) w)
+    go (ofFiles t d) q = n
+    go (ofContents s t d) q =
+        let k = framed cmd in
+        let asked : List ℕ = first (s k) ∷ triesSw (l transport) ∷ challengeSw ch ∷ [] in
+        split (λ (x : Kind). P (about transport w x)) (coded k && passes (first (s k) ∷ triesSw (l transport) ∷ challengeSw ch ∷ []) k)
+        (λ e. f (presents transport (expected l ch k) (k .code)) (try-left (l transport) (all-passed asked k (both (coded k) (passes asked k) e .1) .1 .0)))
+        (λ e. no-code)
     go (ofCredentials t d) q =
-        rw (q .kind-is l ch k w)
-        (split P (passes (t l ch k) k) (λ e. f (d l ch k) (q .fair l ch k (all-passed (t l ch k) k e))) (λ e. n))
+        let k = framed cmd in split P (passes (t l ch k) k) (λ e. f (d l ch k) (q .fair l ch k (all-passed (t l ch k) k e))) (λ e. n)

@@ -11,16 +11,18 @@ use lib.Seq.{take-all, take-take}
 use Rattle.files.specs.Words.{isZero}
 use Rattle.files.specs.Part.{part}
 use Rattle.files.specs.Types.{size}
+use Rattle.files.specs.Rights.{asksCode}
 use Rattle.files.specs.Directory.{start, extent}
 use Rattle.files.proofs.Checks.{split}
 use Rattle.files.proofs.Parts.{part-part}
 use Rattle.files.proofs.Extents.{lies}
 use Rattle.files.proofs.Kept.{lies-in-area}
+use Rattle.rules.specs.declared.Credential.{Credential}
 use Rattle.rules.specs.declared.Card.{Card}
 use Rattle.rules.specs.declared.Ins.{Ins}
 use Rattle.rules.specs.declared.Response.{Response}
 use Rattle.rules.specs.Words.{same}
-use Rattle.rules.specs.State.{logins, mode, responseSize, waitCount, waiting, withWaiting}
+use Rattle.rules.specs.State.{logins, mode, responseSize, waitCount, waiting, withCredentials, withWaiting}
 use Rattle.rules.specs.Frame.{Command, framed}
 use Rattle.rules.specs.Effect.{Deed, turns, enters, shows, stores, appends, makes, founds, Touch, nothing, presents, changes, reloads, challenges, Effect, answers}
 use Rattle.rules.specs.Binary.{fileOf, opens}
@@ -32,16 +34,16 @@ use Rattle.rules.specs.Step.{did, touched, outcome, Stepped, settled, atOnce, s
 use Rattle.rules.proofs.Good.{sound-good, sound-parted, filled-back, said-short, waiting-set, waits-back}
 use Rattle.rules.proofs.Checks.{either}
 use Rattle.rules.proofs.Targets.{place-named}
-use Rattle.demands.specs.Ledger.{Event, sent, resets, Ledger, servable, ledger}
+use Rattle.demands.specs.Ledger.{Event, sent, resets, right as rightly, Ledger, servable, ledger}
 use Rattle.demands.specs.Run.{World, world, called}
 use Rattle.demands.specs.Response.{PutByRead, PutByChallenge, LeftOf, PutBy, WaitingByRight}
 use Rattle.demands.specs.Held.{IsFile}
-use Rattle.demands.proofs.Rows.{Fair, FairTouch, by-rule}
+use Rattle.demands.proofs.Rows.{codeIn, Fair, FairTouch, by-rule}
 use Rattle.demands.proofs.Delivered.{at-once-response, fetched-by, step-by}
 use Rattle.demands.proofs.Soundness.{waiting-few}
 use Rattle.demands.proofs.Live.{Live, after-live, command-is, reset-is}
 use Rattle.demands.proofs.Follows.{Agree, follows}
-use Rattle.demands.proofs.History.{right-told}
+use Rattle.demands.proofs.History.{right-told, code-told}
 use Rattle.demands.proofs.Addressed.{readsFrom, reads-from}
 use Rattle.demands.proofs.View.{bytes-are}
 
@@ -73,6 +75,7 @@ record ReadData (i : Ins) (c : Card) (area : List ℕ) (k : Command) (e : Effect
   here : IsFile c place
   named : readsFrom (role i) c k ≡ place
   held : opens c (fileOf c place .read) ≡ true
+  by-code : asksCode (fileOf c place .read) ≡ true → codeIn i c k ≡ rightly
   data-are : data-of e area ≡ part from count (extent (c .directory) place area)
 
 -- or none, or what it says of itself
@@ -84,11 +87,11 @@ module _ (c : Card) (area : List ℕ) (live : Live (world c area)) (i : Ins) (k 
   unfolding part
   none sw x = inl refl
 
-  deed-source : (d : Deed) → Fair i c area k d → Source i c area k (did c d)
+  deed-source : (xs : List Credential) (d : Deed) → Fair i c area k d → Source i c area k (did (withCredentials c xs) d)
   unfolding extent
-  deed-source (turns place) q = none _ _
-  deed-source (enters n) q = none _ _
-  deed-source (shows place at n) q =
+  deed-source xs (turns place) q = none _ _
+  deed-source xs (enters n) q = none _ _
+  deed-source xs (shows place at n) q =
       let g = sound-good c area (live .sound-card) in
       let named = place-named (c .directory) (g .directory) place (q .entitled .some) (q .entitled .low) in
       let fits = lies (c .directory) place (length area) (lies-in-area (c .directory) area (sound-parted c area (live .sound-card)) place named) .fits in
@@ -99,12 +102,13 @@ module _ (c : Card) (area : List ℕ) (live : Live (world c area)) (i : Ins) (k 
         here = record { first = q .entitled .some; last = q .entitled .low };
         named = q .entitled .named-is;
         held = q .entitled .held;
+        by-code = q .entitled .by-code;
         data-are = sym (part-part area (start (c .directory) place) (size (fileOf c place)) at n fits (q .fits));
       }))
-  deed-source (stores place at bytes) q = inl (nothing-shown area)
-  deed-source (appends place bytes) q = inl (nothing-shown area)
-  deed-source (makes f) q = inl (nothing-shown area)
-  deed-source (founds x) q = none _ _
+  deed-source xs (stores place at bytes) q = inl (nothing-shown area)
+  deed-source xs (appends place bytes) q = inl (nothing-shown area)
+  deed-source xs (makes f) q = inl (nothing-shown area)
+  deed-source xs (founds x) q = none _ _
 
   touch-source : (t : Touch) (random : List ℕ) → FairTouch (logins c) t → Source i c area k (touched c t random)
   unfolding comparedAt
@@ -123,8 +127,8 @@ module _ (c : Card) (area : List ℕ) (live : Live (world c area)) (l : Ledger) 
   source : Source (listed (framed cmd)) c area (framed cmd) (outcome (listed (framed cmd)) c (recordFound c area (framed cmd)) (framed cmd) random)
   source =
       let i = listed (framed cmd) in
-      by-rule (Source i c area (framed cmd)) i c area (live .sound-card) (framed cmd) random (deed-source c area live i (framed cmd))
-      (λ t q. touch-source c area live i (framed cmd) t random q) (λ sw. none c area live i (framed cmd) sw c)
+      by-rule (Source i c area (framed cmd)) i c area (live .sound-card) (framed cmd) random (λ xs v. deed-source c area live i (framed cmd) xs)
+      (λ t q. touch-source c area live i (framed cmd) t random q) (λ xs v sw. none c area live i (framed cmd) sw (withCredentials c xs))
 
   kept-source : LeftOf (world c area) v ⊎ (PutByRead (world c area) v l cmd ⊎ PutByChallenge v)
   unfolding atOnce settled part
@@ -144,6 +148,7 @@ module _ (c : Card) (area : List ℕ) (live : Live (world c area)) (l : Ledger) 
         read = record {
           addressed = reads-from c (sound-good c area (live .sound-card)) (framed cmd) (r .place) (r .here .first) (r .named);
           by-right = right-told c area live l agree (r .place) (r .here) (λ x. x .read) (r .held);
+          by-code = code-told c area live l agree cmd (r .place) (r .here) (λ x. x .read) (r .by-code);
         };
         waiting-are =
             waits ∙ ap (take responseSize) (r .data-are) ∙ part-cut responseSize (r .from) (r .count) (extent (c .directory) (r .place) area)

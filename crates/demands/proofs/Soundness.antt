@@ -21,14 +21,15 @@ use Rattle.files.proofs.Checks.{each, both, split}
 use Rattle.files.proofs.Extents.{file-set, used-is, lies}
 use Rattle.files.proofs.Making.{makes as made-in}
 use Rattle.files.proofs.Kept.{PartedIn, filed, sound-append, sound-created, new-parted, lies-in-area, place-parted, parted-none, parted-in}
+use Rattle.rules.specs.declared.Credential.{Credential}
 use Rattle.rules.specs.declared.Card.{Card}
 use Rattle.rules.specs.declared.Ins.{Ins}
 use Rattle.rules.specs.declared.Response.{Response}
 use Rattle.rules.specs.Words.{same, byte, swBytes}
 use Rattle.rules.specs.Tries.{goodLimit}
-use Rattle.rules.specs.State.{Which, whiches, numberOf, marked, login, logins, mode, waitCount, waiting, withCurrent, withValue}
+use Rattle.rules.specs.State.{Which, whiches, numberOf, marked, login, logins, waitCount, waiting, withCredentials, withCurrent, withValue}
 use Rattle.rules.specs.Sound.{isKey, goodMode, goodPin, goodValue, soundValue, soundCredential, soundState, sound}
-use Rattle.rules.specs.Frame.{Command, framed}
+use Rattle.rules.specs.Frame.{Command, caseOf, lePlace, framed}
 use Rattle.rules.specs.Effect.{Deed, turns, enters, shows, stores, appends, makes, founds, Touch, nothing, presents, changes, reloads, challenges, Effect, answers, storing}
 use Rattle.rules.specs.Binary.{fileOf}
 use Rattle.rules.specs.Record.{recordFound}
@@ -36,7 +37,7 @@ use Rattle.rules.specs.Pins.{comparedAt}
 use Rattle.rules.specs.List.{listed, role}
 use Rattle.rules.specs.Response.{fetchCount}
 use Rattle.rules.specs.Step.{did, touched, outcome, Stepped, settled, atOnce, step}
-use Rattle.rules.specs.Calls.{Order, goodGiven, goodOrder, fresh, cleared, answer}
+use Rattle.rules.specs.Calls.{Order, goodGiven, goodOrder, fresh, cleared}
 use Rattle.rules.proofs.Checks.{either}
 use Rattle.rules.proofs.Good.{Good, for-which, sound-good, sound-parted, sound-both, tried-full, tried-lowered, value-sound, sayable, said-short, placed, turned, entered, founded-good, tried-in, logged, valued, challenged, responded, waited, ended, made}
 use Rattle.rules.proofs.Targets.{place-named, place-run, some-lies, lies-there}
@@ -45,6 +46,7 @@ use Rattle.demands.proofs.Calls.{called-by, reset-by, issued-by}
 use Rattle.demands.specs.Ledger.{Label}
 use Rattle.demands.proofs.Labels.{appended-label}
 use Rattle.demands.proofs.Rows.{FairStore, Fair, FairTouch, by-rule}
+use Rattle.demands.specs.Ledger.{Kind}
 use Rattle.demands.proofs.Delivered.{at-once-response, fetched-by, step-by}
 use Rattle.demands.proofs.Files.{treats, treated-parted}
 
@@ -73,8 +75,8 @@ module _ (c : Card) (area : List ℕ) (h : sound c area ≡ true) (k : Command) 
       record { card = gx; new = none-new x q; said = λ l. refl; few = λ l m. omega arith; shown = omega arith; stored = omega arith }
 
   leaves-stored : (x : Card) → Good x → x .directory .count ≡ c .directory .count → {named place at : ℕ} {f : File} {d : List ℕ}
-      → FairStore c area named place at f d → Leaves c k random (storing x (start (c .directory) place + at) d)
-  leaves-stored x gx e {named} {place} {at} {f} {d} q = record {
+      → {y : Kind} → FairStore y c area named place at f d → Leaves c k random (storing x (start (c .directory) place + at) d)
+  leaves-stored x gx e {named} {place} {at} {f} {d} {y} q = record {
     card = gx;
     new = none-new x e;
     said = λ l. refl;
@@ -83,20 +85,20 @@ module _ (c : Card) (area : List ℕ) (h : sound c area ≡ true) (k : Command) 
     stored = place-run (c .directory) (g .directory) place (q .entitled .some) (q .entitled .low) at (length d) (q .fits);
   }
 
-  deed-leaves : (i : Ins) (x : Deed) → Fair i c area k x → Leaves c k random (did c x)
+  deed-leaves : (i : Ins) (xs : List Credential) → Good (withCredentials c xs) → (x : Deed) → Fair i c area k x → Leaves c k random (did (withCredentials c xs) x)
   unfolding created founded
-  deed-leaves i (turns place) q = leaves-card _ _ (turned c g place (q .low) (q .lies)) refl
-  deed-leaves i (enters n) q = leaves-card _ _ (entered c g n q) refl
-  deed-leaves i (shows place at n) q = record {
-    card = turned c g place (q .entitled .low) (q .entitled .lies);
-    new = none-new (withCurrent c place) refl;
+  deed-leaves i xs v (turns place) q = leaves-card _ _ (turned (withCredentials c xs) v place (q .low) (q .lies)) refl
+  deed-leaves i xs v (enters n) q = leaves-card _ _ (entered (withCredentials c xs) v n q) refl
+  deed-leaves i xs v (shows place at n) q = record {
+    card = turned (withCredentials c xs) v place (q .entitled .low) (q .entitled .lies);
+    new = none-new (withCurrent (withCredentials c xs) place) refl;
     said = λ l. refl;
     few = λ l m. omega (arith, q .few m);
     shown = place-run (c .directory) (g .directory) place (q .entitled .some) (q .entitled .low) at n (q .fits);
     stored = omega arith;
   }
-  deed-leaves i (stores place at d) q = leaves-stored _ (turned c g place (q .entitled .low) (q .entitled .lies)) refl q
-  deed-leaves i (appends place d) q =
+  deed-leaves i xs v (stores place at d) q = leaves-stored _ (turned (withCredentials c xs) v place (q .entitled .low) (q .entitled .lies)) refl q
+  deed-leaves i xs v (appends place d) q =
       let who = q .fair .entitled in
       let w = filed (c .directory) (g .directory) in
       let named = place-named (c .directory) (g .directory) place (who .some) (who .low) in
@@ -105,10 +107,10 @@ module _ (c : Card) (area : List ℕ) (h : sound c area ≡ true) (k : Command) 
       let there = some-lies (withFile (c .directory) (place - 1) f) place (c .session .folder)
       (λ l. ap (λ (z : File). z .folder) same ∙ ap (λ (z : Label). z .within) (appended-label (fileOf c place) (length d)) ∙ lies-there (c .directory) place (c .session .folder) (who .lies) (who .some)) in
       let after = sound-append (c .directory) place (length d) (g .directory) named (q .served) in
-      leaves-stored _ (placed c g _ place after (who .low) (g .folder) there) refl (q .fair)
-  deed-leaves i (makes f) q = record {
+      leaves-stored _ (placed (withCredentials c xs) v _ place after (who .low) (g .folder) there) refl (q .fair)
+  deed-leaves i xs v (makes f) q = record {
     card =
-        placed c g _ (c .directory .count + 1) (sound-created (c .directory) f 4096 (g .directory) (q .served)) (le-refl _) (g .folder)
+        placed (withCredentials c xs) v _ (c .directory .count + 1) (sound-created (c .directory) f 4096 (g .directory) (q .served)) (le-refl _) (g .folder)
         (some-lies (created (c .directory) f) (c .directory .count + 1) (c .session .folder) (λ l. new-within));
     new = one-new;
     said = λ l. refl;
@@ -125,13 +127,13 @@ module _ (c : Card) (area : List ℕ) (h : sound c area ≡ true) (k : Command) 
           rw (e, file-set (c .directory .files) (c .directory .count) (emptied f) (omega (arith, w .places, few))) (ap (λ (x : Label). x .within) (q .given))
 
       one-new : (place : ℕ) → c .directory .count < place → place ≤ c .directory .count + 1 → (x : List ℕ)
-          → partedFile (fileOf (did c (makes f) .card) place) x ≡ true
+          → partedFile (fileOf (did (withCredentials c xs) (makes f) .card) place) x ≡ true
       one-new place lo hi x =
           let w = filed (c .directory) (g .directory) in
           let few = made-in (c .directory) f 4096 (q .served) .few in
           let e : place - 1 ≡ c .directory .count = omega arith in
           rw (e, file-set (c .directory .files) (c .directory .count) (emptied f) (omega (arith, w .places, few))) (new-parted f x)
-  deed-leaves i (founds x) q = leaves-card _ _ (founded-good c g x (q .served)) refl
+  deed-leaves i xs v (founds x) q = leaves-card _ _ (founded-good (withCredentials c xs) v x (q .served)) refl
 
   -- a good PIN for a credential that is no key
   pin-valued : (w : Which) (d : List ℕ) → isKey (numberOf w) ≡ false → goodPin d ≡ true → Good (withValue w c d)
@@ -162,12 +164,14 @@ module _ (c : Card) (area : List ℕ) (h : sound c area ≡ true) (k : Command) 
       }
 
   pub leaves : (i : Ins) → Leaves c k random (outcome i c (recordFound c area k) k random)
-  leaves i = by-rule (Leaves c k random) i c area h k random (deed-leaves i) touch-leaves (λ sw. leaves-card sw c g refl)
+  leaves i = by-rule (Leaves c k random) i c area h k random (deed-leaves i) touch-leaves (λ xs v sw. leaves-card sw (withCredentials c xs) v refl)
 
 -- Le is at most 256
 pub le-low : (cmd : List ℕ) → Bytes cmd → framed cmd .le ≤ 256
 unfolding framed
-le-low cmd b = split (λ n. n ≤ 256) (isZero (byte cmd 4)) (λ e. le-refl 256) (λ e. omega (arith, b 4))
+le-low cmd b =
+    let at = lePlace (caseOf cmd) (byte cmd 4) in
+    split (λ n. n ≤ 256) (isZero (byte cmd at)) (λ e. le-refl 256) (λ e. omega (arith, b at))
 
 -- of one step: every file that was there stays parted, and so is a new one
 module _ (c : Card) (area cmd random : List ℕ) (h : sound c area ≡ true) (size-is : length area ≡ areaSize) where
@@ -194,7 +198,7 @@ module _ (c : Card) (area cmd random : List ℕ) (h : sound c area ≡ true) (si
       old place some low =
           let named = place-named (c .directory) (sound-good c area h .directory) place some low in
           let here = lies-in-area (c .directory) area (sound-parted c area h) place named in
-          treated-parted c area place (role (listed (framed cmd))) (framed cmd) e (treats c area h place some low (framed cmd) (listed (framed cmd)) random)
+          treated-parted _ c area place (role (listed (framed cmd))) (framed cmd) e (treats (listed (framed cmd)) c area h place some low (framed cmd) random)
           (lies (c .directory) place (length area) here .fits) inside (place-parted (c .directory) area (sound-parted c area h) place named)
 
 -- of the command at once

@@ -18,7 +18,7 @@ use Rattle.rules.specs.declared.Ins.the-variants.{Select, ReadBinary, UpdateBin
 use Rattle.rules.specs.Words.{first}
 use Rattle.rules.specs.State.{device, admin, user, Logins}
 use Rattle.rules.specs.Frame.{Command, framed, frameSw, classSw}
-use Rattle.rules.specs.List.{listed, Role, touchesNothing, selects, readsBinary, readsRecord, writesBinary, writesRecord, makesFile, presentsPin, presentsKey, changesPin, reloadsPin, asksChallenge, role}
+use Rattle.rules.specs.List.{listed, Role, touchesNothing, selects, readsBinary, readsRecord, writesBinary, writesRecord, appendsRecord, makesFile, presentsPin, presentsKey, changesPin, reloadsPin, asksChallenge, role}
 use Rattle.rules.specs.Calls.{Order}
 use Rattle.rules.proofs.Checks.{Passed, passed, holds}
 use Rattle.demands.specs.Ledger.{Event, sent, resets, Label, Tag, Tree, passes, noLabel, noTag, nth, tagIn, fidOf, fidOfTag, hasName, tagged, bitSet, satisfied, asksDirectory, labelGiven, tagGiven, makeChecks, withMade, turnedTo, fidAsked, seekChecks, leadsTo, grown, Ledger, tells, selectSw, servable, next, tell, ledger}
@@ -107,6 +107,7 @@ role-grown readsBinary l t k = same-tree t
 role-grown readsRecord l t k = same-tree t
 role-grown writesBinary l t k = same-tree t
 role-grown writesRecord l t k = same-tree t
+role-grown appendsRecord l t k = same-tree t
 role-grown makesFile l t k = split (TreeGrown t) (passes (makeChecks l t k) k) (λ e. made-grown t k) (λ e. same-tree t)
 role-grown presentsPin l t k = same-tree t
 role-grown presentsKey l t k = same-tree t

@@ -1,39 +1,45 @@
 -- The wrong cards answer a command of a card in use otherwise than the rules, by computation.
 use Prim.Native.Nat.{ℕ, zero, suc}
-use mathlib.Core.List.{List, [], _∷_}
-use mathlib.Core.Bool.{true}
+use mathlib.Core.List.{List, [], _∷_, _++_}
+use mathlib.Core.Bool.{Bool, true, false}
 use mathlib.Core.Path.{_≡_, refl, sym, ap, subst, _∙_}
 use native.Mathlib.Omega.{arith}
 use lib.ListN.{length, drop}
 use Rattle.cipher.specs.Cipher.{lastRound, cipher, aes128}
+use Rattle.codes.specs.Padding.{padded}
+use Rattle.codes.specs.Chaining.{link, chain, firstBlocks}
+use Rattle.codes.specs.Code.{mac, code}
 use Rattle.files.specs.Words.{allBelow, seek}
 use Rattle.files.specs.Part.{part, splice, over, zeros}
 use Rattle.files.specs.Types.{count, recordLength, size, goodShape}
-use Rattle.files.specs.Rights.{allHeld, allowed, goodRights}
+use Rattle.files.specs.Rights.{allHeld, anyHeld, allowed, goodRights, goodFileRights}
 use Rattle.files.specs.Directory.{used, startAt, findFid, findSfi, findFolder}
 use Rattle.files.specs.Record.{bytesUsed, soundHeld, soundUsed, partedFile}
 use Rattle.files.specs.Create.{areaSize, goodContents, apart, nameUnused, room, created, goodFolder, fidUnused, founded}
 use Rattle.files.specs.Sound.{soundFile, unusedPlace, sfisDiffer, unusedFolder, soundFolder, soundFolders, soundDirectory, partedArea}
 use Rattle.rules.specs.declared.Answer.{Answer}
-use Rattle.rules.specs.Words.{orElse, allOf, same, byte}
-use Rattle.rules.specs.State.{user, forEach, numberOf, Login, login, challenge, waiting, withRights}
+use Rattle.rules.specs.declared.Ins.the-variants.{ReadBinary}
+use Rattle.rules.specs.declared.Card.{Card}
+use Rattle.rules.specs.Words.{orElse, first, allOf, same, byte}
+use Rattle.rules.specs.State.{Which, user, transport, forEach, Login, login, logins, challenge, waiting, withRights}
 use Rattle.rules.specs.Sound.{goodMode, goodPin, goodValue, soundValue, soundTries, soundCredential, soundChallenge, soundResponse, soundCurrent, soundState, sound}
-use Rattle.rules.specs.Frame.{caseOf, framed}
+use Rattle.rules.specs.Frame.{Command, caseOf, framed, frameSw, classSw}
 use Rattle.rules.specs.List.{rows, find, listed, rule}
 use Rattle.rules.specs.Select.{selectChecks}
-use Rattle.rules.specs.Binary.{target, readCount, readBinaryChecks}
+use Rattle.rules.specs.Binary.{target, readCount, readBinaryFront, readBinaryChecks}
+use Rattle.rules.specs.Record.{recordFound}
 use Rattle.rules.specs.Create.{fileGiven, folderGiven, goodFolderGiven, creationRight, createChecks}
 use Rattle.rules.specs.Pins.{comparedAt, verifyChecks}
 use Rattle.rules.specs.Device.{authenticateChecks, getChallengeChecks}
 use Rattle.rules.specs.Response.{waitSw, getResponseChecks, fetches}
-use Rattle.rules.specs.Step.{checks, effectOf, outcome, settled, atOnce, fetched, step}
+use Rattle.rules.specs.Code.{codeSw, presentsCode, credentialsAfter}
+use Rattle.rules.specs.Step.{checks, effectOf, kept, ruled, outcome, settled, atOnce, fetched, step}
 use Rattle.rules.specs.Calls.{Done, Order, replySize, command, reset, goodOrder, fresh, issue}
-use Rattle.rules.proofs.Equal.{equal-same}
-use Rattle.rules.proofs.Good.{numbered}
+use Rattle.rules.proofs.Equal.{same-equal, equal-same}
 use Rattle.demands.specs.Ledger.{Event, sent, Page}
 use Rattle.demands.specs.Run.{World, world, run, Served, after}
 use Rattle.demands.specs.Follows.{Agrees}
-use Rattle.demands.specs.WrongCards.{Box, Fails, dropsAtRefusal, keepsWaiting, saysNothingWaits, dropsChallenge, entersNew, keepsFile, looksInRoot, staysInside, EntersNew, KeepsFile, LooksInRoot, StaysInside, DropsAtRefusal, KeepsWaiting, SaysNothingWaits, DropsChallenge, refusesAll, onlySays, neverAlters, obeysOnce, FailsNotMeets, RefusesAll, OnlySays, NeverAlters, ObeysOnce, RulesMeet, MadeUpBreaks}
+use Rattle.demands.specs.WrongCards.{Box, Fails, dropsAtRefusal, keepsWaiting, saysNothingWaits, dropsChallenge, entersNew, keepsFile, looksInRoot, staysInside, undoesTries, codeForRight, UndoesTries, CodeForRight, EntersNew, KeepsFile, LooksInRoot, StaysInside, DropsAtRefusal, KeepsWaiting, SaysNothingWaits, DropsChallenge, refusesAll, onlySays, neverAlters, obeysOnce, FailsNotMeets, RefusesAll, OnlySays, NeverAlters, ObeysOnce, RulesMeet, MadeUpBreaks}
 use Rattle.demands.proofs.Live.{after-live}
 use Rattle.demands.proofs.Follows.{login-set, full}
 use Rattle.demands.proofs.Bound.{credentials-follow}
@@ -50,7 +56,8 @@ order m = record {
   given =
       forEach (record { value = zeros 16; limit = 128 })
       (record { value = 0x38 ∷ 0x37 ∷ 0x36 ∷ 0x35 ∷ 0x34 ∷ 0x33 ∷ 0x32 ∷ 0x31 ∷ []; limit = 5 })
-      (record { value = 0x31 ∷ 0x32 ∷ 0x33 ∷ 0x34 ∷ 0x35 ∷ 0x36 ∷ []; limit = 3 });
+      (record { value = 0x31 ∷ 0x32 ∷ 0x33 ∷ 0x34 ∷ 0x35 ∷ 0x36 ∷ []; limit = 3 })
+      (record { value = zeros 16; limit = 128 });
   mode = m;
 }
 
@@ -135,9 +142,17 @@ select-directory = 0x00 ∷ 0xA4 ∷ 0x00 ∷ 0x00 ∷ 0x02 ∷ 0x51 ∷ 0x01 �
 unfoldable read-file : List ℕ
 read-file = 0x00 ∷ 0xB0 ∷ 0x82 ∷ 0x00 ∷ 0x01 ∷ []
 
+-- a binary file 2002 of one byte whose read right is 86: the admin right and a code
+unfoldable make-coded : List ℕ
+make-coded = 0x80 ∷ 0xE0 ∷ 0x20 ∷ 0x02 ∷ 0x05 ∷ 0x28 ∷ 0x00 ∷ 0x01 ∷ 0x86 ∷ 0x00 ∷ []
+
+-- it is read by its SFI with this code
+unfoldable coded-read : List ℕ → List ℕ
+coded-read d = 0x04 ∷ 0xB0 ∷ 0x82 ∷ 0x00 ∷ 0x04 ∷ (first-bytes 4 d ++ 0x01 ∷ [])
+
 -- a card in use, by computation: to unfold this is to unfold all that these commands need, the cipher apart
 computed : ℕ → List Event → World
-unfolding order wrong-pin query get-challenge first-bytes log-in asks-five asks-four make-file make-directory select-root select-directory read-file after run issue goodOrder goodValue goodPin allOf command sound soundState partedArea soundValue soundTries soundCredential soundChallenge soundResponse soundDirectory soundFile unusedPlace sfisDiffer soundFolders soundFolder unusedFolder soundCurrent soundHeld goodShape count recordLength size used startAt allBelow over part splice orElse caseOf framed rows find listed rule checks effectOf outcome settled atOnce fetches step getChallengeChecks same verifyChecks comparedAt fetched getResponseChecks waitSw selectChecks seek findFid findFolder authenticateChecks allowed allHeld goodRights goodContents goodFolder goodFolderGiven findSfi fidUnused nameUnused apart room created founded fileGiven folderGiven creationRight createChecks target readCount readBinaryChecks soundUsed bytesUsed partedFile
+unfolding codeSw presentsCode credentialsAfter order wrong-pin query get-challenge first-bytes log-in asks-five asks-four make-file make-directory select-root select-directory read-file make-coded coded-read after run issue goodOrder goodValue goodPin allOf command sound soundState partedArea soundValue soundTries soundCredential soundChallenge soundResponse soundDirectory soundFile unusedPlace sfisDiffer soundFolders soundFolder unusedFolder soundCurrent soundHeld goodShape count recordLength size used startAt allBelow over part splice orElse caseOf framed rows find listed rule checks effectOf kept outcome settled atOnce fetches step getChallengeChecks same verifyChecks comparedAt fetched getResponseChecks waitSw selectChecks seek findFid findFolder authenticateChecks allowed allHeld anyHeld goodRights goodFileRights goodContents goodFolder goodFolderGiven findSfi fidUnused nameUnused apart room created founded fileGiven folderGiven creationRight createChecks target readCount readBinaryChecks soundUsed bytesUsed partedFile
 computed m before = in-use m before
 
 -- a challenge has data
@@ -269,12 +284,94 @@ stays-inside = record {
       (λ e. let q : 1 ≡ 0 = sym stays ∙ ap inside-of e ∙ returns in absurd (omega (arith, q)));
 }
 
+-- ---- codes: the right one of this command, behind a challenge of four bytes 00
+abbrev right-code : List ℕ
+right-code = code (mac (zeros 16) (zeros 16) (0x04 ∷ 0xB0 ∷ 0x82 ∷ 0x00 ∷ 0x04 ∷ []))
+
+four : length right-code ≡ 4
+unfolding mac chain firstBlocks padded link aes128 cipher lastRound
+four = refl
+
+is-right : same right-code (first-bytes 4 right-code) ≡ true
+is-right = equal-same right-code (first-bytes 4 right-code) (sym (ap (λ n. first-bytes n right-code) (sym four) ∙ all-bytes right-code))
+
+-- a wrong one costs a try
+undone : (a b d e : ℕ) → same right-code (a ∷ b ∷ d ∷ e ∷ []) ≡ false → Fails undoesTries
+unfolding once computed
+undone a b d e n =
+    fails-at 0 refl undoesTries once (coded-read (a ∷ b ∷ d ∷ e ∷ [])) (λ x. login transport (x .answer .card) .tries .left) 127 128 (rw n) (rw n) (λ z. absurd (omega arith))
+
+-- of two codes one is wrong
+pub undoes-tries : UndoesTries
+unfolding same
+undoes-tries = go (same right-code (0 ∷ 0 ∷ 0 ∷ 0 ∷ [])) refl
+  where
+    go : (b : Bool) → same right-code (0 ∷ 0 ∷ 0 ∷ 0 ∷ []) ≡ b → Fails undoesTries
+    go false e = undone 0 0 0 0 e
+    go true e = undone 0 0 0 1 (ap (λ (d : List ℕ). same d (0 ∷ 0 ∷ 0 ∷ 1 ∷ [])) (same-equal right-code (0 ∷ 0 ∷ 0 ∷ 0 ∷ []) e))
+
+-- the file asks for the admin right and a code, the device right alone is held, and no file is current: a read makes it so where it is served
+coded-file : World
+unfolding computed
+coded-file = run logged-in (calls (make-coded ∷ select-root ∷ get-challenge ∷ []))
+
+there : in-use 0 (calls (get-challenge ∷ log-in ∷ make-coded ∷ select-root ∷ get-challenge ∷ [])) ≡ coded-file
+unfolding coded-file
+there = then (make-coded ∷ select-root ∷ get-challenge ∷ [])
+
+as-held : (before : List Event) (c : Card) (area rest : List ℕ)
+    → codeForRight before c area (0x04 ∷ rest) (zeros 16) (zeros replySize) .answer .card .session .current
+    ≡ command (withRights c (1 ∷ 1 ∷ 1 ∷ [])) area (0x04 ∷ rest) (zeros 16) (zeros replySize) .answer .card .session .current
+as-held before c area rest = refl
+
+module _ (a b d e : ℕ) (n : same right-code (a ∷ b ∷ d ∷ e ∷ []) ≡ true) where
+  abbrev asked : Command
+  asked = framed (coded-read (a ∷ b ∷ d ∷ e ∷ []))
+
+  code-passes : codeSw (logins (coded-file .card)) (challenge (coded-file .card)) (framed (coded-read (a ∷ b ∷ d ∷ e ∷ []))) ≡ 0x9000
+  unfolding computed coded-file
+  code-passes = rw n
+
+  also-passes :
+      codeSw (logins (withRights (coded-file .card) (1 ∷ 1 ∷ 1 ∷ []))) (challenge (withRights (coded-file .card) (1 ∷ 1 ∷ 1 ∷ []))) (framed (coded-read (a ∷ b ∷ d ∷ e ∷ []))) ≡ 0x9000
+  unfolding computed coded-file
+  also-passes = rw n
+
+  -- the current file afterwards, by what the check of the code says
+  abbrev current-by : Card → ℕ → ℕ
+  current-by c sw =
+      ruled (first (frameSw asked ∷ classSw asked ∷ first (first (readBinaryFront asked) ∷ sw ∷ readBinaryChecks c asked) ∷ []))
+      (kept ReadBinary c asked) (effectOf ReadBinary c (recordFound c (coded-file .area) asked) asked (zeros 16)) .card .session .current
+
+  abbrev current-after : Card → ℕ
+  current-after c = command c (coded-file .area) (coded-read (a ∷ b ∷ d ∷ e ∷ [])) (zeros 16) (zeros replySize) .answer .card .session .current
+
+  refused-there : current-after (coded-file .card) ≡ 0
+  unfolding computed coded-file
+  refused-there = subst (λ sw. current-by (coded-file .card) sw ≡ 0) (sym code-passes) refl
+
+  let-in-there : current-after (withRights (coded-file .card) (1 ∷ 1 ∷ 1 ∷ [])) ≡ 1
+  unfolding computed coded-file
+  let-in-there = subst (λ sw. current-by (withRights (coded-file .card) (1 ∷ 1 ∷ 1 ∷ [])) sw ≡ 1) (sym also-passes) refl
+
+  let-in : Fails codeForRight
+  unfolding coded-read
+  let-in =
+      let before : List Event = calls (get-challenge ∷ log-in ∷ make-coded ∷ select-root ∷ get-challenge ∷ []) in
+      let rest : List ℕ = 0xB0 ∷ 0x82 ∷ 0x00 ∷ 0x04 ∷ (first-bytes 4 (a ∷ b ∷ d ∷ e ∷ []) ++ 0x01 ∷ []) in
+      fails-on 0 refl codeForRight before coded-file there (coded-read (a ∷ b ∷ d ∷ e ∷ [])) (λ x. x .answer .card .session .current) 0 1 refused-there
+      (as-held before (coded-file .card) (coded-file .area) rest ∙ let-in-there) (λ z. absurd (omega arith))
+
+pub code-for-right : CodeForRight
+unfolding first-bytes
+code-for-right = let r = right-code in let-in (byte r 0) (byte (drop 1 r) 0) (byte (drop 1 (drop 1 r)) 0) (byte (drop 1 (drop 1 (drop 1 r))) 0) is-right
+
 -- two counts that agree with one page are equal
-one-count : (x y : Login) (p : Page) → Agrees x p → Agrees y p → x .tries .left ≡ y .tries .left
-one-count x y p a b = omega (arith, a .tries-are, b .tries-are)
+one-count : (w : Which) (x y : Login) (p : Page) → Agrees w x p → Agrees w y p → x .tries .left ≡ y .tries .left
+one-count w x y p a b = omega (arith, a .tries-are, b .tries-are)
 
 pub made-up-breaks : MadeUpBreaks
 made-up-breaks o area es h w n other a =
     let c = after o area es .card in
-    let made-up = ap (λ (x : Login). x .tries .left) (login-set c (full c _ (after-live o area es h)) (numberOf w) (numbered w) (record { left = n; limit = login w c .tries .limit }) (login w c .held)) in
-    other (sym made-up ∙ one-count _ _ _ a (credentials-follow o area es h w))
+    let made-up = ap (λ (x : Login). x .tries .left) (login-set c (full c _ (after-live o area es h)) w (record { left = n; limit = login w c .tries .limit }) (login w c .held)) in
+    other (sym made-up ∙ one-count w _ _ _ a (credentials-follow o area es h w))

@@ -110,7 +110,7 @@ recordsOf f bytes =
 abbrev pub recordsNo : Card → List ℕ → ℕ → List (List ℕ)
 recordsNo c area n = recordsOf (fileNo c n) (bytesNo c area n)
 
--- ---- credentials and rights: 0 the device key, 1 the admin PIN, 2 the user PIN
+-- ---- credentials and rights: 0 the device key, 1 the admin PIN, 2 the user PIN, 3 the transport key (R-9), which has no right
 abbrev pub credentialNo : Card → ℕ → Credential
 credentialNo c n = getD (c .credentials) n noCredential
 
@@ -127,9 +127,9 @@ limitNo c n = credentialNo c n .tries .limit
 abbrev pub rightNo : Card → ℕ → ℕ
 rightNo c n = getD (c .session .rights) n 0
 
--- ---- what a rights byte asks, of the rights that are held: bit 8 admin, bit 7 user, bit 1 device
+-- ---- what a rights byte asks, of the rights that are held: bit 8 admin, bit 7 user, bit 1 device; none stands for the transport key
 abbrev pub bitOf : Which → ℕ → ℕ
-bitOf w right = forEach (right % 2) (right / 128 % 2) (right / 64 % 2) w
+bitOf w right = forEach (right % 2) (right / 128 % 2) (right / 64 % 2) 0 w
 
 -- a set bit whose right is held
 pub record OneHeld (held : Which → Type 0) (right : ℕ) : Type 0 where
@@ -142,6 +142,11 @@ pub record Opens (held : Which → Type 0) (right : ℕ) : Type 0 where
   pub all : right / 2 % 2 ≡ 0 → (w : Which) → bitOf w right ≡ 1 → held w
   pub any : right / 2 % 2 ≡ 1 → OneHeld held right
   pub not-never : right ≡ 0x0F → ⊥
+
+-- bit 3 of a file's right asks for a code beside the rights (R-9): it is none of those that bit 2 chooses from, and 0F has no bits
+pub record AsksCode (right : ℕ) : Type 0 where
+  pub bit-set : right / 4 % 2 ≡ 1
+  pub has-bits : right ≡ 0x0F → ⊥
 
 -- what a CREATE FILE needs: in the root the device right, inside a directory what its creation right asks
 pub record MayCreate (held : Which → Type 0) (current create : ℕ) : Type 0 where

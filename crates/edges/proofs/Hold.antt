@@ -9,10 +9,13 @@ use Rattle.cipher.specs.SubBytes.{square, squares, inverse, sbox}
 use Rattle.cipher.specs.MixColumns.{mixColumn}
 use Rattle.cipher.specs.KeyExpansion.{expanded, keyExpansion}
 use Rattle.cipher.specs.Cipher.{roundKey, fullRound, lastRound, rounds, cipher, aes128}
+use Rattle.codes.specs.Padding.{padded}
+use Rattle.codes.specs.Chaining.{added, link, chain, firstBlocks}
+use Rattle.codes.specs.Code.{mac}
 use Rattle.files.specs.Words.{allBelow, seek}
 use Rattle.files.specs.Part.{part, splice, over}
 use Rattle.files.specs.Types.{count, recordLength, size, goodShape}
-use Rattle.files.specs.Rights.{allHeld, anyHeld, allowed, goodRights}
+use Rattle.files.specs.Rights.{allHeld, anyHeld, allowed, goodRights, goodFileRights}
 use Rattle.files.specs.Directory.{used, startAt, extent, isPlace, inArea, findFid, findSfi, findFolder}
 use Rattle.files.specs.Record.{back, next, bytesUsed, placesHeld, placeOf, recordsHeld, startOf, lengthOf, located, locatedIn, nextPlace, nextStart, entry, appended, soundHeld, soundUsed, partedFile, isRecord, hasRoom}
 use Rattle.files.specs.Walk.{stands, past, walk, parted, standing}
@@ -29,7 +32,8 @@ use Rattle.rules.specs.Pins.{comparedAt, verifyChecks, changeChecks, reloadChec
 use Rattle.rules.specs.Device.{authenticateChecks, getChallengeChecks}
 use Rattle.rules.specs.Create.{fileGiven, folderGiven, goodFolderGiven, creationRight, createChecks}
 use Rattle.rules.specs.Response.{waitSw, getResponseChecks, fetches}
-use Rattle.rules.specs.Step.{checks, effectOf, outcome, settled, atOnce, fetched, step}
+use Rattle.rules.specs.Code.{codeSw, presentsCode, credentialsAfter}
+use Rattle.rules.specs.Step.{checks, effectOf, kept, outcome, settled, atOnce, fetched, step}
 use Rattle.rules.specs.Calls.{command, reset, goodOrder, issue}
 use Rattle.edges.specs.Table.{Edge, allHold}
 use Rattle.edges.specs.Starred.{starred}
@@ -55,11 +59,14 @@ use Rattle.edges.specs.PinRanges.{pin-digits, pin-tries, orders, staying
 use Rattle.edges.specs.LoginRanges.{cryptograms, login-of-4, login-of-8}
 use Rattle.edges.specs.ResponseRanges.{response-bytes, issue-modes}
 use Rattle.edges.specs.FolderRanges.{types-created, fids-created, creation-rights, creation-asked, folder-bytes}
+use Rattle.edges.specs.Codes.{codes, unpresented}
+use Rattle.edges.specs.CodeRanges.{coded-lengths, coded-tries, coded-rights, coded-counts, paddings}
+use Rattle.edges.specs.Coded.{code-late, code-wrong, code-served}
 use Rattle.edges.specs.Edges.{edges, EachHolds}
 
 -- whether rows hold, by computation: to unfold this is to unfold every rule that a row may need
 computed : List Edge → Bool
-unfolding xPower square squares inverse sbox mixColumn expanded keyExpansion roundKey fullRound lastRound rounds cipher aes128 allBelow part splice over count recordLength size goodShape allHeld anyHeld allowed goodRights used startAt extent isPlace inArea seek findFid findSfi findFolder back next bytesUsed placesHeld placeOf recordsHeld startOf lengthOf located locatedIn nextPlace nextStart entry appended soundHeld soundUsed partedFile isRecord hasRoom stands past walk parted standing goodContents apart nameUnused room created goodFolder fidUnused founded soundFile unusedPlace sfisDiffer unusedFolder soundFolder soundFolders soundDirectory partedArea orElse allOf same goodPin goodValue soundValue soundTries soundCredential soundChallenge soundResponse soundCurrent soundState sound caseOf framed rows find listed rule selectChecks target readCount readBinaryChecks updateBinaryChecks recordFound readRecordChecks updateRecordChecks appendChecks comparedAt verifyChecks changeChecks reloadChecks authenticateChecks getChallengeChecks fileGiven folderGiven goodFolderGiven creationRight createChecks waitSw getResponseChecks fetches checks effectOf outcome settled atOnce fetched step command reset goodOrder issue
+unfolding xPower square squares inverse sbox mixColumn expanded keyExpansion roundKey fullRound lastRound rounds cipher aes128 padded added link chain firstBlocks mac allBelow part splice over count recordLength size goodShape allHeld anyHeld allowed goodRights goodFileRights used startAt extent isPlace inArea seek findFid findSfi findFolder back next bytesUsed placesHeld placeOf recordsHeld startOf lengthOf located locatedIn nextPlace nextStart entry appended soundHeld soundUsed partedFile isRecord hasRoom stands past walk parted standing goodContents apart nameUnused room created goodFolder fidUnused founded soundFile unusedPlace sfisDiffer unusedFolder soundFolder soundFolders soundDirectory partedArea orElse allOf same goodPin goodValue soundValue soundTries soundCredential soundChallenge soundResponse soundCurrent soundState sound caseOf framed rows find listed rule selectChecks target readCount readBinaryChecks updateBinaryChecks recordFound readRecordChecks updateRecordChecks appendChecks comparedAt verifyChecks changeChecks reloadChecks authenticateChecks getChallengeChecks fileGiven folderGiven goodFolderGiven creationRight createChecks waitSw getResponseChecks fetches codeSw presentsCode credentialsAfter checks effectOf kept outcome settled atOnce fetched step command reset goodOrder issue
 computed = allHold
 
 pub starred-hold : allHold starred ≡ true
@@ -234,6 +241,46 @@ pub folder-bytes-hold : allHold folder-bytes ≡ true
 unfolding computed
 folder-bytes-hold = refl
 
+pub codes-hold : allHold codes ≡ true
+unfolding computed
+codes-hold = refl
+
+pub unpresented-hold : allHold unpresented ≡ true
+unfolding computed
+unpresented-hold = refl
+
+pub coded-lengths-hold : allHold coded-lengths ≡ true
+unfolding computed
+coded-lengths-hold = refl
+
+pub coded-tries-hold : allHold coded-tries ≡ true
+unfolding computed
+coded-tries-hold = refl
+
+pub coded-rights-hold : allHold coded-rights ≡ true
+unfolding computed
+coded-rights-hold = refl
+
+pub coded-counts-hold : allHold coded-counts ≡ true
+unfolding computed
+coded-counts-hold = refl
+
+pub paddings-hold : allHold paddings ≡ true
+unfolding computed
+paddings-hold = refl
+
+pub code-late-hold : allHold code-late ≡ true
+unfolding computed
+code-late-hold = refl
+
+pub code-wrong-hold : allHold code-wrong ≡ true
+unfolding computed
+code-wrong-hold = refl
+
+pub code-served-hold : allHold code-served ≡ true
+unfolding computed
+code-served-hold = refl
+
 pub edges-hold : EachHolds edges
 edges-hold =
-    (starred-hold, (framing-hold, (selecting-hold, (binaries-hold, (recording-hold, (variables-hold, (holding-rights-hold, (pins-hold, (devices-hold, (creating-hold, (calls-hold, (credentials-hold, (directories-hold, (sessions-hold, (folders-hold, (folder-states-hold, (fetching-hold, (discarding-hold, (modes-hold, (responses-hold, (login-hold, (login-fetched-hold, (class-bytes-hold, (ins-bytes-hold, (frame-lengths-hold, (sfis-hold, (offsets-hold, (rights-created-hold, (rights-asked-hold, (pin-digits-hold, (pin-tries-hold, (orders-hold, (staying-hold, (cryptograms-hold, (login-of-4-hold, (login-of-8-hold, (response-bytes-hold, (issue-modes-hold, (types-created-hold, (fids-created-hold, (creation-rights-hold, (creation-asked-hold, (folder-bytes-hold, tt)))))))))))))))))))))))))))))))))))))))))))
+    (starred-hold, (framing-hold, (selecting-hold, (binaries-hold, (recording-hold, (variables-hold, (holding-rights-hold, (pins-hold, (devices-hold, (creating-hold, (calls-hold, (credentials-hold, (directories-hold, (sessions-hold, (folders-hold, (folder-states-hold, (fetching-hold, (discarding-hold, (modes-hold, (responses-hold, (login-hold, (login-fetched-hold, (class-bytes-hold, (ins-bytes-hold, (frame-lengths-hold, (sfis-hold, (offsets-hold, (rights-created-hold, (rights-asked-hold, (pin-digits-hold, (pin-tries-hold, (orders-hold, (staying-hold, (cryptograms-hold, (login-of-4-hold, (login-of-8-hold, (response-bytes-hold, (issue-modes-hold, (types-created-hold, (fids-created-hold, (creation-rights-hold, (creation-asked-hold, (folder-bytes-hold, (codes-hold, (unpresented-hold, (coded-lengths-hold, (coded-tries-hold, (coded-rights-hold, (coded-counts-hold, (paddings-hold, (code-late-hold, (code-wrong-hold, (code-served-hold, tt)))))))))))))))))))))))))))))))))))))))))))))))))))))

@@ -47,7 +47,7 @@ fids-created =
 abbrev pub is-sound : Card → Bool → Bool
 is-sound c good = eqb (flag (soundState c)) (flag good)
 
--- a creation right is good as a file's is, at CREATE and in a sound state
+-- a creation right is good as a file's without bit 3 is (R-9), at CREATE and in a sound state
 abbrev pub creation-rights : List Edge
 creation-rights =
     swept 256 (λ b. told-by in-root (hex 0x1_80E0_3001_05_380000 ++ (b ∷ 0 ∷ [])) (cond (among good-bytes b) 0x9000 0x6A80))

@@ -11,7 +11,7 @@ use Rattle.rules.specs.declared.Tries.{Tries}
 use Rattle.rules.specs.declared.Credential.{Credential}
 use Rattle.rules.specs.declared.Card.{Card}
 use Rattle.rules.specs.Tries.{full}
-use Rattle.rules.specs.State.{Which, device, admin, user, withCredential, withDirectory, withSession, withLogin}
+use Rattle.rules.specs.State.{Which, device, admin, user, transport, withCredential, withDirectory, withSession, withLogin}
 use Rattle.edges.specs.Table.{hex, random, Edge, stated}
 use Rattle.edges.specs.Cards.{holder, filed, add, cabinet}
 use Rattle.edges.specs.Create.{fifteen}
@@ -41,9 +41,9 @@ tries left limit = record { left = left; limit = limit }
 abbrev pub valued : List ℕ → ℕ → Credential
 valued bytes len = record { value = bytes; len = len; tries = full 3 }
 
--- the card with this device key, and this admin or user PIN: credentials 0, 1 and 2
-abbrev pub with-key : List ℕ → ℕ → Card
-with-key bytes len = withCredential plain 0 (valued bytes len)
+-- the card with this device key, this admin or user PIN, or this transport key: credentials 0 to 3
+abbrev pub with-device : Credential → Card
+with-device = withCredential plain 0
 
 abbrev pub with-admin : Credential → Card
 with-admin = withCredential plain 1
@@ -51,26 +51,29 @@ with-admin = withCredential plain 1
 abbrev pub with-user : Credential → Card
 with-user = withCredential plain 2
 
--- the device key is 16 bytes of any value, in sixteen places
-abbrev pub bad-keys : List Card
-bad-keys =
-    with-key (replicate 15 0x31 ++ zeros 1) 15
-    ∷ with-key (zeros 16) 15
-    ∷ with-key (zeros 16) 0
-    ∷ with-key (zeros 16) 17
-    ∷ with-key (hex 0x1_313233343536 ++ zeros 10) 6
-    ∷ with-key (zeros 15) 15
-    ∷ with-key (zeros 15) 16
-    ∷ with-key (zeros 17) 16
-    ∷ with-key (zeros 17) 17
+abbrev pub with-transport : Credential → Card
+with-transport = withCredential plain 3
+
+-- a key is 16 bytes of any value, in sixteen places
+abbrev pub bad-keys : (Credential → Card) → List Card
+bad-keys with-key =
+    with-key (valued (replicate 15 0x31 ++ zeros 1) 15)
+    ∷ with-key (valued (zeros 16) 15)
+    ∷ with-key (valued (zeros 16) 0)
+    ∷ with-key (valued (zeros 16) 17)
+    ∷ with-key (valued (hex 0x1_313233343536 ++ zeros 10) 6)
+    ∷ with-key (valued (zeros 15) 15)
+    ∷ with-key (valued (zeros 15) 16)
+    ∷ with-key (valued (zeros 17) 16)
+    ∷ with-key (valued (zeros 17) 17)
     ∷ []
 
-abbrev pub good-keys : List Card
-good-keys =
-    with-key (zeros 16) 16
-    ∷ with-key (replicate 16 0xFF) 16
-    ∷ with-key (replicate 16 0x31) 16
-    ∷ with-key random 16
+abbrev pub good-keys : (Credential → Card) → List Card
+good-keys with-key =
+    with-key (valued (zeros 16) 16)
+    ∷ with-key (valued (replicate 16 0xFF) 16)
+    ∷ with-key (valued (replicate 16 0x31) 16)
+    ∷ with-key (valued random 16)
     ∷ []
 
 -- a PIN is 6 to 16 bytes, each 30 to 39; PIN bytes past its length are 00
@@ -93,16 +96,18 @@ bad-pins with-pin =
 abbrev pub good-pins : (Credential → Card) → List Card
 good-pins with-pin = with-pin (valued (hex 0x1_303132333439 ++ zeros 10) 6) ∷ with-pin (valued (replicate 16 0x39) 16) ∷ []
 
--- a limit of 1 to 128, tries left from 0 to the limit, and a held right has all its tries left
-abbrev pub bad-logins : Which → List Card
-bad-logins w =
+-- a limit of 1 to 128, tries left from 0 to the limit
+abbrev pub bad-tries : Which → List Card
+bad-tries w =
     withLogin w plain (tries 0 0) false
     ∷ withLogin w plain (tries 129 129) false
     ∷ withLogin w plain (tries 0 129) false
     ∷ withLogin w plain (tries 4 3) false
-    ∷ withLogin w plain (tries 2 3) true
-    ∷ withLogin w plain (tries 0 3) true
     ∷ []
+
+-- a held right has all its tries left
+abbrev pub bad-logins : Which → List Card
+bad-logins w = withLogin w plain (tries 2 3) true ∷ withLogin w plain (tries 0 3) true ∷ bad-tries w
 
 abbrev pub good-logins : Which → List Card
 good-logins w =
@@ -112,22 +117,25 @@ good-logins w =
     ∷ withLogin w plain (tries 3 3) false
     ∷ []
 
--- three credentials
+-- four credentials
 abbrev pub keeping : List Credential → Card
 keeping xs = record { credentials = xs; directory = plain .directory; session = plain .session; response = plain .response }
 
 abbrev pub bad-counts : List Card
 bad-counts =
-    keeping (take 2 (plain .credentials)) ∷ keeping (plain .credentials ++ (valued (hex 0x1_313233343536 ++ zeros 10) 6 ∷ [])) ∷ keeping [] ∷ []
+    keeping (take 3 (plain .credentials)) ∷ keeping (plain .credentials ++ (valued (hex 0x1_313233343536 ++ zeros 10) 6 ∷ [])) ∷ keeping [] ∷ []
 
 abbrev pub credentials : List Edge
 credentials =
-    bad bad-keys ++ good good-keys
+    bad (bad-keys with-device) ++ good (good-keys with-device)
+    ++ bad (bad-keys with-transport) ++ good (good-keys with-transport)
     ++ bad (bad-pins with-admin) ++ good (good-pins with-admin)
     ++ bad (bad-pins with-user) ++ good (good-pins with-user)
     ++ bad (bad-logins device) ++ good (good-logins device)
     ++ bad (bad-logins admin) ++ good (good-logins admin)
     ++ bad (bad-logins user) ++ good (good-logins user)
+    -- the transport key opens no right (R-9)
+    ++ bad (bad-tries transport) ++ good (good-logins transport)
     ++ bad bad-counts
 
 -- a card with these files alone
@@ -155,6 +163,8 @@ bad-files =
     -- no rights byte is bad
     ∷ having (newFile 0x10 0x01 0x28 0 1 0x02 0x00 ∷ [])
     ∷ having (newFile 0x10 0x01 0x28 0 1 0x00 0x8F ∷ [])
+    ∷ having (newFile 0x10 0x01 0x28 0 1 0x06 0x00 ∷ [])
+    ∷ having (newFile 0x10 0x01 0x28 0 1 0x00 0x0C ∷ [])
     -- a 2E file holds at most its count, its newest place is below its count, and 00 where it holds none
     ∷ having (withNewest (newFile 0x10 0x01 0x2E 2 1 0x00 0x00) 3 1 ∷ [])
     ∷ having (withNewest (newFile 0x10 0x01 0x2E 2 1 0x00 0x00) 1 2 ∷ [])
@@ -198,6 +208,7 @@ good-files =
     having (newFile 0x00 0x01 0x28 16 0 0x0F 0xC1 ∷ [])
     ∷ having (newFile 0xFF 0xFE 0x2A 254 16 0x81 0x41 ∷ [])
     ∷ having (newFile 0x10 0x01 0x2A 2 178 0x80 0x40 ∷ newFile 0x10 0x02 0x28 14 156 0x01 0x00 ∷ [])
+    ∷ having (newFile 0x10 0x01 0x28 0 1 0x04 0xC6 ∷ [])
     ∷ having (withNewest (newFile 0x10 0x01 0x2E 2 1 0x00 0x00) 2 1 ∷ withNewest (newFile 0x10 0x02 0x2E 254 1 0x00 0x00) 1 253 ∷ [])
     ∷ places (oneMore fifteen (newFile 0x10 0x10 0x28 0 1 0x00 0x00) .files) 16
     ∷ []

@@ -50,4 +50,4 @@ cardSize = size mir
 
 -- the number that tells versions of the card apart: 1 for document 01, and one more for each landing since that changed the card, the cipher or the calls
 abbrev pub version : ℕ
-version = 10
+version = 11

@@ -1,5 +1,7 @@
 // The calls for C, all of them: include/limpetnook.h declares each. A card is lent by `&mut` and driven in place through call after call: each
 // function calls the one of `card` that takes a card by value, and stores the answer.
+mod board; // board.rt: the main board's side of a code
+
 ghost use mathlib.Core.Path.{_≡_};
 ghost use Rattle.rules.specs.Calls.{issue, command, reset};
 ghost use Rattle.cipher.specs.Call.{Enciphered};
@@ -7,10 +9,16 @@ ghost use Rattle.card.specs.Ordered.{orderOf};
 ghost use Rattle.texts.specs.Text.{new};
 ghost use Rattle.texts.specs.Calls.{toText, fromText, toNew, toOld};
 ghost use Rattle.limpetnook.specs.Place.{Placed, PlacesIssue, PlacesCommand, PlacesText, PlacesConverted, PlacesCard, cardSize, version};
+ghost use Rattle.limpetnook.specs.Board.{Coded};
+use crate::board::CODE_SIZE;
+use crate::board::block_of;
+use crate::board::good_lengths;
 use card::issue::issue;
 use card::issue::reset;
 use card::step::command;
 use cipher::encipher;
+use codes::mac;
+use files::run::show;
 use rules::Card;
 use texts::calls::from_text;
 use texts::calls::to_new;
@@ -18,7 +26,7 @@ use texts::calls::to_old;
 use texts::calls::to_text;
 
 // No function of the language says how large a value is; the contract does.
-const CARD_SIZE: usize = 544;
+const CARD_SIZE: usize = 563;
 
 // The bytes that a card takes.
 #[no_mangle]
@@ -33,7 +41,7 @@ pub extern "C" fn limpet_card_size() -> usize
 pub extern "C" fn limpet_version() -> u32
     ensures { λ r. ⌜ r ≡ version ⌝ }
 {
-    10
+    11
 }
 
 // One block of AES-128.
@@ -42,6 +50,19 @@ pub extern "C" fn limpet_aes128(key: &[u8], block: &[u8], out: &mut [u8]) -> u8
     ensures { λ r. ⌜ Enciphered (now (key .entry)) (now (block .entry)) (now (out .entry)) r (now (out .exit)) ⌝ }
 {
     encipher(key, block, out)
+}
+
+// The code of a message, for the main board's side of the bus: 0. Where key, challenge or code has another length: 6, and code stays as it was.
+#[no_mangle]
+pub extern "C" fn limpet_code(key: &[u8], challenge: &[u8], message: &[u8], code: &mut [u8]) -> u8
+    ensures { λ r. ⌜ Coded (now (key .entry)) (now (challenge .entry)) (now (message .entry)) (now (code .entry)) r (now (code .exit)) ⌝ }
+{
+    if !good_lengths(key.len(), challenge.len(), code.len()) {
+        return 6;
+    }
+    let block = mac(block_of(key), block_of(challenge), message);
+    show(&block, 0, CODE_SIZE, code);
+    0
 }
 
 // The card before it does not matter; a refused issue leaves a blank one.
@@ -56,8 +77,10 @@ pub extern "C" fn limpet_issue(
     user_pin: &[u8],
     user_limit: u16,
     mode: u16,
+    transport_key: &[u8],
+    transport_limit: u16,
 ) -> u8
-    ensures { λ r. ⌜ PlacesIssue (issue (orderOf (now (key .entry)) «device_limit» (now («admin_pin» .entry)) «admin_limit» (now («user_pin» .entry)) «user_limit» mode) (now (area .entry))) r (now (card .exit)) (now (area .exit)) ⌝ }
+    ensures { λ r. ⌜ PlacesIssue (issue (orderOf (now (key .entry)) «device_limit» (now («admin_pin» .entry)) «admin_limit» (now («user_pin» .entry)) «user_limit» mode (now («transport_key» .entry)) «transport_limit») (now (area .entry))) r (now (card .exit)) (now (area .exit)) ⌝ }
 {
     let issued = issue(
         area,
@@ -68,6 +91,8 @@ pub extern "C" fn limpet_issue(
         user_pin,
         user_limit,
         mode,
+        transport_key,
+        transport_limit,
     );
     *card = issued.card;
     issued.outcome

@@ -1,6 +1,6 @@
 -- APPEND RECORD.
 use Prim.Native.Nat.{ℕ, zero, suc, _+_, _-_, _*_, _/_, _%_, _≤_, _<_}
-use mathlib.Core.Bool.{true, false, _&&_, not}
+use mathlib.Core.Bool.{true, false, _&&_, _||_, not}
 use mathlib.Core.List.{List, [], _∷_, _++_}
 use mathlib.Core.Logic.{inl, inr, ⊎-elim, by-cases}
 use mathlib.Core.Path.{_≡_, refl, sym, ap, _∙_, subst}
@@ -13,6 +13,7 @@ use lib.Seq.{take-all}
 use borrow.Author.Tests.{eqb-true, eqb-false, eq-eqb, ne-eqb, leb-true, le-leb, not-true}
 use Rattle.files.specs.declared.File.{File}
 use Rattle.files.specs.Words.{isZero}
+use Rattle.files.specs.Rights.{asksCode}
 use Rattle.files.specs.Types.{cyclic, isVariable, hasRecords, recordLength, size, count}
 use Rattle.files.specs.Part.{splice}
 use Rattle.files.specs.State.{withFile}
@@ -29,26 +30,27 @@ use Rattle.files.proofs.Cycle.{next-empty, next-on, next-round}
 use Rattle.rules.specs.declared.Card.{Card}
 use Rattle.rules.specs.declared.Ins.the-variants.{AppendRecord}
 use Rattle.rules.specs.Words.{first}
-use Rattle.rules.specs.Frame.{Command, framed}
-use Rattle.rules.specs.Binary.{opens}
-use Rattle.rules.specs.Record.{goodP2, recordTarget, appendChecks, appending}
+use Rattle.rules.specs.State.{withCredentials}
+use Rattle.rules.specs.Frame.{Command, framed, coded}
+use Rattle.rules.specs.Binary.{target, opens}
+use Rattle.rules.specs.Record.{goodP2, recordTarget, appendFront, appendChecks, appendDeed, appending}
 use Rattle.rules.specs.List.{find, rows, rule}
-use Rattle.rules.specs.Step.{checks, effectOf, Stepped, step}
+use Rattle.rules.specs.Step.{did, Stepped, step}
 use Rattle.rules.proofs.Checks.{passed, one-of}
 use Rattle.rules.proofs.Good.{sound-good}
 use Rattle.rules.proofs.Found as found
 use Rattle.demands.specs.Ledger.{Label, sizeOf}
 use Rattle.demands.specs.Held.{fileNo, IsFile, bytesNo, recordsNo, labelOf}
 use Rattle.demands.specs.Held as held
-use Rattle.demands.proofs.Soundness.{step-sound}
 use Rattle.demands.proofs.Named.{opens-asked, asked-opens}
 use Rattle.demands.proofs.View.{size-is}
 use Rattle.served.specs.Left.{Written, Stores}
-use Rattle.served.specs.Answers.{Grows, RecordAppended, AppendRecordAnswers, CyclicAppended, VariableAppended}
+use Rattle.served.specs.Answers.{WriteCase, RecordP, Grows, RecordAppended, AppendRecordAnswers, CyclicAppended, VariableAppended}
 use Rattle.served.specs.Answers as answers
-use Rattle.served.proofs.Frames.{some-data}
+use Rattle.served.proofs.Frames.{some-data, write-test, write-to, to-write, write-four}
 use Rattle.served.proofs.View.{in-area, held-sound, parted-sound, listed-are}
-use Rattle.served.proofs.Steps.{Settled, word, Runs, by-name, serves, check, check-file}
+use Rattle.served.proofs.Steps.{Settled, Checked, serves, check, check-file, Sends, by-either}
+use Rattle.served.proofs.Codes.{code-to, to-code, contents}
 use Rattle.served.proofs.Writes.{writes, now-file, stores}
 
 -- P2 low bits and SFI
@@ -137,12 +139,10 @@ take-newest : (m : ℕ) (r : List ℕ) (old : List (List ℕ)) → 1 ≤ m → t
 take-newest zero r old l = absurd (omega arith)
 take-newest (suc m) r old l = let e : suc m - 1 ≡ m = omega arith in rw e
 
-module _ (c : Card) (area cmd random : List ℕ) (r : Runs c area cmd random AppendRecord) where
+-- on the card that a code leaves
+module _ (c : Card) (area random cmd : List ℕ) (s : Stepped) (r : Checked c area (first (appendChecks c (framed cmd))) (did c (appendDeed c (framed cmd))) s) where
   abbrev k : Command
   k = framed cmd
-
-  abbrev s : Stepped
-  s = step c area cmd random
 
   abbrev n : ℕ
   n = recordTarget c (framed cmd)
@@ -153,19 +153,14 @@ module _ (c : Card) (area cmd random : List ℕ) (r : Runs c area cmd random App
   abbrev d : List ℕ
   d = framed cmd .given
 
-  word-is : word AppendRecord c area (framed cmd) ≡ first (appendChecks c (framed cmd))
-  unfolding checks rule
-  word-is = refl
-
-  module _ (there : IsFile c (recordTarget c (framed cmd))) (g : Grows (fileNo c (recordTarget c (framed cmd)))) (e : word AppendRecord c area (framed cmd) ≡ 0x9000) where
+  module _ (there : IsFile c (recordTarget c (framed cmd))) (g : Grows (fileNo c (recordTarget c (framed cmd)))) (e : first (appendChecks c (framed cmd)) ≡ 0x9000) where
     takes-it : appendsRecord f (length d) ≡ true
-    takes-it = found.appends c area (r .card-sound) (framed cmd) (there .first) (passed (appendChecks c (framed cmd)) (sym word-is ∙ e))
+    takes-it = found.appends c area (r .card-sound) (framed cmd) (there .first) (passed (appendChecks c (framed cmd)) e)
 
     settled : Settled c area (appending c n d) s
-    unfolding effectOf rule
     settled = serves r e
 
-    written : Written c area (recordTarget c (framed cmd)) (step c area cmd random)
+    written : Written c area (recordTarget c (framed cmd)) s
     written =
         writes c area (r .card-sound) n there (appended f (length d)) (nextStart f) (entry f d) s settled (label-same f (length d)) (appended-size f (length d))
         (next-fits f d takes-it)
@@ -174,14 +169,14 @@ module _ (c : Card) (area cmd random : List ℕ) (r : Runs c area cmd random App
     now-is = now-file c area (r .card-sound) n there (appended f (length d)) (nextStart f) (entry f d) s settled (label-same f (length d)) (appended-size f (length d))
         (next-fits f d takes-it)
 
-    there-still : IsFile (step c area cmd random .card) n
+    there-still : IsFile (s .card) n
     there-still = record { first = there .first; last = rw (written .as-many) (there .last) }
 
     -- the list of records as the files' layer has it, afterwards and before
     now-listed : recordsNo (s .card) (s .area) n ≡ records (file (withFile (c .directory) (n - 1) (appended f (length d))) n)
         (extent (withFile (c .directory) (n - 1) (appended f (length d))) n (splice area (start (c .directory) n + nextStart f) (entry f d)))
     now-listed =
-        listed-are (s .card) (s .area) (step-sound c area cmd random (r .card-sound) (r .area-long) (r .random-long)) n there-still (has-records (fileNo (s .card) n) grown)
+        listed-are (s .card) (s .area) (r .after-sound) n there-still (has-records (fileNo (s .card) n) grown)
         ∙ rw (settled .directory-is, settled .area-is)
       where
         grown : Grows (fileNo (s .card) n)
@@ -223,7 +218,7 @@ module _ (c : Card) (area cmd random : List ℕ) (r : Runs c area cmd random App
         stores c area (r .card-sound) n there (appended f (length d)) (nextStart f) (entry f d) s settled (label-same f (length d)) (appended-size f (length d))
         (next-fits f d takes-it)
 
-    cyclic-appended : f .kind ≡ 0x2E → CyclicAppended c area random (framed cmd) (step c area cmd random) (recordTarget c (framed cmd))
+    cyclic-appended : f .kind ≡ 0x2E → CyclicAppended c area random cmd s (recordTarget c (framed cmd))
     cyclic-appended kind =
         let v : isVariable f ≡ false = rw kind in
         let w = knows f (eq-eqb _ _ kind) (held-sound c area (r .card-sound) n there) in
@@ -239,7 +234,7 @@ module _ (c : Card) (area cmd random : List ℕ) (r : Runs c area cmd random App
               (subst (λ (ys : List ℕ). Stores (bytesNo c area n) (nextStart f) ys (bytesNo (s .card) (s .area) n)) (entry-places f v d) stored);
         }
 
-    variable-appended : f .kind ≡ 0x2C → VariableAppended c area random (framed cmd) (step c area cmd random) (recordTarget c (framed cmd))
+    variable-appended : f .kind ≡ 0x2C → VariableAppended c area random cmd s (recordTarget c (framed cmd))
     variable-appended kind =
         let v : isVariable f ≡ true = rw kind in
         record {
@@ -250,24 +245,35 @@ module _ (c : Card) (area cmd random : List ℕ) (r : Runs c area cmd random App
               (subst (λ (ys : List ℕ). Stores (bytesNo c area n) (nextStart f) ys (bytesNo (s .card) (s .area) n)) (entry-variable f v d) stored);
         }
 
-    appended-is : RecordAppended c area random (framed cmd) (step c area cmd random) (recordTarget c (framed cmd))
+    appended-is : RecordAppended c area random cmd s (recordTarget c (framed cmd))
     appended-is = record { written = written; cyclic = cyclic-appended; variable = variable-appended }
 
-  appends : answers.AppendRecord c area random (framed cmd) (step c area cmd random)
+  appends : WriteCase cmd → answers.AppendsRecord c area random cmd s
   unfolding appendChecks
-  appends =
-      check r (isZero (k .p1) && goodP2 0 k) 0x6A86 _
-      (λ t. let q = both (isZero (k .p1)) (goodP2 0 k) t in (eqb-true _ _ (q .0), good-p2 0 k (q .1)))
-      (λ q. join (eq-eqb _ _ (q .0)) (p2-good 0 k (q .1))) refl (record { is = word-is }) (λ p e1.
-      check r (eqb (k .case) 3) 0x6700 _ (eqb-true _ _) (eq-eqb _ _) refl e1 (λ three e2.
-      check-file r (k .p2 / 8) _ _ e2 (λ named e3.
-      check r (grows f) 0x6981 _ (grows-to f) (to-grows f) refl e3 (λ g e4.
-      check r (opens c (f .write)) 0x6982 _ (opens-asked c (f .write)) (asked-opens c (f .write)) refl e4 (λ o e5.
-      check r (isRecord f (length d)) 0x6700 _ (lc-to f (length d)) (to-lc f (length d) g (some-data cmd three)) refl e5 (λ lc e6.
+  appends case =
+      check-file r random cmd (k .p2 / 8) _ _ (record { is = refl }) (λ named e1.
+      check r (grows f) 0x6981 _ (grows-to f) (to-grows f) refl e1 (λ g e2.
+      check r (opens c (f .write)) 0x6982 _ (opens-asked c (f .write)) (asked-opens c (f .write)) refl e2 (λ o e3.
+      check r (not (asksCode (f .write)) || coded k) 0x6982 _ (code-to cmd (f .write)) (to-code cmd (f .write) (o .not-never)) refl e3 (λ q e4.
+      check r (isRecord f (length d)) 0x6700 _ (lc-to f (length d)) (to-lc f (length d) g (some-data cmd case)) refl e4 (λ lc e5.
       check r (hasRoom f (length d)) 0x6A84 [] (room-to f (length d))
-      (to-room f (length d) g (held-sound c area (r .card-sound) n (named .there)) (to-lc f (length d) g (some-data cmd three) lc)) refl e6 (λ room e7.
-      appended-is (named .there) g (e7 .is))))))))
+      (to-room f (length d) g (held-sound c area (r .card-sound) n (named .there)) (to-lc f (length d) g (some-data cmd case) lc)) refl e5 (λ room e6.
+      appended-is (named .there) g (e6 .is)))))))
+
+pub append-p : (cmd : List ℕ) → (isZero (framed cmd .p1) && goodP2 0 (framed cmd)) ≡ true → (framed cmd .p1 ≡ 0) × RecordP 0 cmd
+append-p cmd t = let q = both (isZero (framed cmd .p1)) (goodP2 0 (framed cmd)) t in (eqb-true _ _ (q .0), good-p2 0 (framed cmd) (q .1))
+
+pub p-append : (cmd : List ℕ) → (framed cmd .p1 ≡ 0) × RecordP 0 cmd → (isZero (framed cmd .p1) && goodP2 0 (framed cmd)) ≡ true
+p-append cmd q = join (eq-eqb _ _ (q .0)) (p2-good 0 (framed cmd) (q .1))
+
+module _ (c : Card) (area cmd random : List ℕ) (v : Sends c area cmd random AppendRecord) where
+  append-record : answers.AppendRecord c area random cmd (step c area cmd random)
+  unfolding rule appendChecks target
+  append-record =
+      contents v appendFront (λ c l k. appendChecks c k) (λ c l k. appendDeed c k) refl (λ x. answers.AppendsRecord x area random cmd (step c area cmd random))
+      (isZero (framed cmd .p1) && goodP2 0 (framed cmd)) (write-test cmd) refl (append-p cmd) (p-append cmd) (write-to cmd) (to-write cmd) (write-four cmd)
+      (λ xs p q r. appends (withCredentials c xs) area random cmd (step c area cmd random) r q)
 
 pub append-record-answers : AppendRecordAnswers
 unfolding find rows
-append-record-answers = by-name 0x00 0xE2 answers.AppendRecord AppendRecord (inl refl) refl refl appends
+append-record-answers = by-either 0xE2 answers.AppendRecord AppendRecord refl refl refl append-record

@@ -1,6 +1,6 @@
 -- READ BINARY and UPDATE BINARY.
 use Prim.Native.Nat.{ℕ, _+_, _-_, _≤_, _<_, min}
-use mathlib.Core.Bool.{true, _||_}
+use mathlib.Core.Bool.{true, _||_, not}
 use mathlib.Core.List.{List, [], _∷_}
 use mathlib.Core.Logic.{_⊎_, inl, inr, ⊎-elim, by-cases}
 use mathlib.Core.Path.{_≡_, refl, sym, ap, _∙_}
@@ -13,30 +13,31 @@ use borrow.Author.Tests.{eqb-true, eq-eqb, ne-eqb, leb-true, le-leb, ltb-true, l
 use Rattle.files.specs.declared.File.{File}
 use Rattle.files.specs.Part.{part}
 use Rattle.files.specs.State.{withFile}
+use Rattle.files.specs.Rights.{asksCode}
 use Rattle.files.specs.Types.{binary, size}
 use Rattle.files.specs.Directory.{start, extent}
 use Rattle.files.proofs.Checks.{both, join}
 use Rattle.files.proofs.Stays.{extent-part}
 use Rattle.rules.specs.declared.Card.{Card}
-use Rattle.rules.specs.declared.Ins.{Ins}
 use Rattle.rules.specs.declared.Ins.the-variants.{ReadBinary, UpdateBinary}
 use Rattle.rules.specs.Words.{unless, first}
-use Rattle.rules.specs.State.{withCurrent, withDirectory}
+use Rattle.rules.specs.State.{withCurrent, withDirectory, withCredentials}
 use Rattle.rules.specs.Sound.{sound}
-use Rattle.rules.specs.Frame.{Command, framed, lc, caseSw}
-use Rattle.rules.specs.Effect.{storing}
-use Rattle.rules.specs.Binary.{opens, bySfi, binaryPSw, offset, binarySfi, binaryTarget, binaryChecks, readCount, readBinaryChecks, updateBinaryChecks}
+use Rattle.rules.specs.Frame.{Command, framed, lc, coded}
+use Rattle.rules.specs.Effect.{Effect, storing}
+use Rattle.rules.specs.Binary.{target, opens, bySfi, offset, binarySfi, binaryTarget, binaryChecks, readCount, readBinaryFront, readBinaryChecks, readBinaryDeed, updateBinaryFront, updateBinaryChecks, updateBinaryDeed}
 use Rattle.rules.specs.List.{find, rows, rule}
-use Rattle.rules.specs.Step.{checks, effectOf, Stepped, step}
+use Rattle.rules.specs.Step.{did, Stepped, step}
 use Rattle.rules.proofs.Checks.{one-of, either}
 use Rattle.demands.specs.Held.{fileNo, IsFile, bytesNo}
 use Rattle.demands.proofs.Named.{opens-asked, asked-opens}
 use Rattle.demands.proofs.View.{size-is, bytes-are}
-use Rattle.served.specs.Left.{Left}
 use Rattle.served.specs.Answers.{BinaryUpdated, ReadBinaryAnswers, UpdateBinaryAnswers}
 use Rattle.served.specs.Answers as answers
 use Rattle.served.proofs.View.{in-area, extent-length}
-use Rattle.served.proofs.Steps.{Settled, quiet, word, Rest, Runs, by-name, serves, check, check-file}
+use Rattle.served.proofs.Frames.{read-test, read-to, to-read, read-four, write-test, write-to, to-write, write-four}
+use Rattle.served.proofs.Steps.{Settled, quiet, Rest, Checked, serves, check, check-file, Sends, by-either}
+use Rattle.served.proofs.Codes.{code-to, to-code, contents}
 use Rattle.served.proofs.Writes.{stored, writes, now-file, stores}
 
 -- P1 and P2
@@ -49,31 +50,26 @@ module _ (k : Command) where
   pub to-p : (k .p1 < 0x80) ⊎ ((0x81 ≤ k .p1) × (k .p1 ≤ 0x9E)) → (ltb (k .p1) 0x80 || bySfi k) ≡ true
   to-p = ⊎-elim (λ l. rw (lt-ltb _ _ l)) (λ q. either (ltb (k .p1) 0x80) (join (le-leb 0x81 (k .p1) (q .0)) (le-leb (k .p1) 0x9E (q .1))))
 
--- what both ask, up to the length
-module _ {c : Card} {area cmd random : List ℕ} {i : Ins} (r : Runs c area cmd random i) (case : ℕ) (right : File → ℕ) (count : ℕ) (Next : ℕ → Type 0) where
+-- what both ask of their file, up to the length
+module _ {c : Card} {area : List ℕ} {w : ℕ} {e : Effect} {s : Stepped} (r : Checked c area w e s) (random cmd : List ℕ) (right : File → ℕ) (count : ℕ) (Next : ℕ → Type 0) where
   abbrev k : Command
   k = framed cmd
 
   abbrev f : File
   f = fileNo c (binaryTarget c (framed cmd))
 
-  abbrev s : Stepped
-  s = step c area cmd random
-
   asks-binary :
-      word i c area (framed cmd)
-      ≡ first (binaryPSw (framed cmd) ∷ caseSw case (framed cmd) ∷ binaryChecks c (binaryTarget c (framed cmd)) (right (fileNo c (binaryTarget c (framed cmd)))) (offset (framed cmd)) count)
+      w ≡ first (binaryChecks c (framed cmd) (binaryTarget c (framed cmd)) (right (fileNo c (binaryTarget c (framed cmd)))) (offset (framed cmd)) count)
       → ((there : IsFile c (binaryTarget c (framed cmd))) → offset (framed cmd) < size (fileNo c (binaryTarget c (framed cmd)))
-      → Rest (word i c area (framed cmd)) (unless (leb (offset (framed cmd) + count) (size (fileNo c (binaryTarget c (framed cmd))))) 0x6700 ∷ []) → Next (binaryTarget c (framed cmd)))
-      → answers.askBinary c area random (framed cmd) (step c area cmd random) case right Next
+      → Rest w (unless (leb (offset (framed cmd) + count) (size (fileNo c (binaryTarget c (framed cmd))))) 0x6700 ∷ []) → Next (binaryTarget c (framed cmd)))
+      → answers.askBinary c area random cmd s right Next
   asks-binary e g =
-      check r (ltb (k .p1) 0x80 || bySfi k) 0x6A86 _ (p-to k) (to-p k) refl (record { is = e }) (λ p e1.
-      check r (eqb (k .case) case) 0x6700 _ (eqb-true _ _) (eq-eqb _ _) refl e1 (λ z e2.
-      check-file r (binarySfi k) _ _ e2 (λ named e3.
-      check r (eqb (f .kind) binary) 0x6981 _ (eqb-true _ _) (eq-eqb _ _) refl e3 (λ kind e4.
-      check r (opens c (right f)) 0x6982 _ (opens-asked c (right f)) (asked-opens c (right f)) refl e4 (λ o e5.
-      check r (ltb (offset k) (size f)) 0x6A84 _ (λ t. rw (size-is f) (ltb-true _ _ t)) (λ l. lt-ltb _ _ (rw (size-is f) at l)) refl e5 (λ l e6.
-      g (named .there) (rw (size-is f) at l) e6))))))
+      check-file r random cmd (binarySfi k) _ _ (record { is = e }) (λ named e1.
+      check r (eqb (f .kind) binary) 0x6981 _ (eqb-true _ _) (eq-eqb _ _) refl e1 (λ kind e2.
+      check r (opens c (right f)) 0x6982 _ (opens-asked c (right f)) (asked-opens c (right f)) refl e2 (λ o e3.
+      check r (not (asksCode (right f)) || coded k) 0x6982 _ (code-to cmd (right f)) (to-code cmd (right f) (o .not-never)) refl e3 (λ q e4.
+      check r (ltb (offset k) (size f)) 0x6A84 _ (λ t. rw (size-is f) (ltb-true _ _ t)) (λ l. lt-ltb _ _ (rw (size-is f) at l)) refl e4 (λ l e5.
+      g (named .there) (rw (size-is f) at l) e5)))))
 
 -- as many as there are
 take-least : (m : ℕ) (l : List ℕ) → take (min m (length l)) l ≡ take m l
@@ -139,75 +135,82 @@ module _ (c : Card) (area : List ℕ) (h : sound c area ≡ true) (k : Command) 
           counted-some : (k .le ≡ 256 → ⊥) → readCount (fileNo c n) k ≡ k .le
           counted-some o = some-counted (fileNo c n) k o
 
-module _ (c : Card) (area cmd random : List ℕ) (r : Runs c area cmd random ReadBinary) where
+-- on the card that a code leaves
+module _ (c : Card) (area random cmd : List ℕ) (s : Stepped)
+    (r : Checked c area (first (readBinaryChecks c (framed cmd))) (did c (readBinaryDeed c (framed cmd))) s) where
   abbrev t : ℕ
   t = binaryTarget c (framed cmd)
 
   abbrev at : ℕ
   at = offset (framed cmd)
 
-  read-word : word ReadBinary c area (framed cmd)
-      ≡ first (binaryPSw (framed cmd) ∷ caseSw 2 (framed cmd) ∷ binaryChecks c (binaryTarget c (framed cmd)) (fileNo c (binaryTarget c (framed cmd)) .read) (offset (framed cmd)) (readCount (fileNo c (binaryTarget c (framed cmd))) (framed cmd)))
-  unfolding checks rule readBinaryChecks
+  read-word : first (readBinaryChecks c (framed cmd))
+      ≡ first (binaryChecks c (framed cmd) (binaryTarget c (framed cmd)) (fileNo c (binaryTarget c (framed cmd)) .read) (offset (framed cmd)) (readCount (fileNo c (binaryTarget c (framed cmd))) (framed cmd)))
+  unfolding readBinaryChecks
   read-word = refl
 
-  read-shown : word ReadBinary c area (framed cmd) ≡ 0x9000 → (d : List ℕ)
-      → part (start (c .directory) (binaryTarget c (framed cmd)) + offset (framed cmd)) (readCount (fileNo c (binaryTarget c (framed cmd))) (framed cmd)) area ≡ d
-      → Left c area 0x9000 d (binaryTarget c (framed cmd)) [] (step c area cmd random)
-  unfolding effectOf rule
-  read-shown e d q = quiet c area 0x9000 t [] (start (c .directory) t + at) (readCount (fileNo c t) (framed cmd)) d (step c area cmd random) (serves r e) q
-
-  reads : answers.ReadBinary c area random (framed cmd) (step c area cmd random)
+  reads : answers.ReadsBinary c area random cmd s
   reads =
-      asks-binary r 2 (λ (f : File). f .read) (readCount (fileNo c t) (framed cmd)) _ read-word (λ there low e.
+      asks-binary r random cmd (λ (f : File). f .read) (readCount (fileNo c t) (framed cmd)) _ read-word (λ there low e.
       check r (leb (at + readCount (fileNo c t) (framed cmd)) (size (fileNo c t))) 0x6700 []
       (λ z. rw (size-is (fileNo c t)) (count-to c area (r .card-sound) (framed cmd) there low z))
       (λ q. to-count c area (r .card-sound) (framed cmd) there low (rw (size-is (fileNo c t)) at q)) refl e (λ q z.
-      read-shown (z .is) _ (shown c area (r .card-sound) (framed cmd) there low (rw (size-is (fileNo c t)) at q))))
+      quiet c area 0x9000 t [] (start (c .directory) t + at) (readCount (fileNo c t) (framed cmd)) _ s (serves r (z .is))
+      (shown c area (r .card-sound) (framed cmd) there low (rw (size-is (fileNo c t)) at q))))
+
+module _ (c : Card) (area cmd random : List ℕ) (v : Sends c area cmd random ReadBinary) where
+  read-binary : answers.ReadBinary c area random cmd (step c area cmd random)
+  unfolding rule readBinaryChecks target
+  read-binary =
+      contents v readBinaryFront (λ c l k. readBinaryChecks c k) (λ c l k. readBinaryDeed c k) refl (λ x. answers.ReadsBinary x area random cmd (step c area cmd random))
+      (ltb (framed cmd .p1) 0x80 || bySfi (framed cmd)) (read-test cmd) refl (p-to (framed cmd)) (to-p (framed cmd)) (read-to cmd) (to-read cmd) (read-four cmd)
+      (λ xs p q r. reads (withCredentials c xs) area random cmd (step c area cmd random) r)
 
 pub read-binary-answers : ReadBinaryAnswers
 unfolding find rows
-read-binary-answers = by-name 0x00 0xB0 answers.ReadBinary ReadBinary (inl refl) refl refl reads
+read-binary-answers = by-either 0xB0 answers.ReadBinary ReadBinary refl refl refl read-binary
 
 -- ---- UPDATE BINARY
-module _ (c : Card) (area cmd random : List ℕ) (r : Runs c area cmd random UpdateBinary) where
-  update-word : word UpdateBinary c area (framed cmd)
-      ≡ first (binaryPSw (framed cmd) ∷ caseSw 3 (framed cmd) ∷ binaryChecks c (binaryTarget c (framed cmd)) (fileNo c (binaryTarget c (framed cmd)) .write) (offset (framed cmd)) (lc (framed cmd)))
-  unfolding checks rule updateBinaryChecks
+module _ (c : Card) (area random cmd : List ℕ) (s : Stepped)
+    (r : Checked c area (first (updateBinaryChecks c (framed cmd))) (did c (updateBinaryDeed c (framed cmd))) s) where
+  update-word : first (updateBinaryChecks c (framed cmd))
+      ≡ first (binaryChecks c (framed cmd) (binaryTarget c (framed cmd)) (fileNo c (binaryTarget c (framed cmd)) .write) (offset (framed cmd)) (lc (framed cmd)))
+  unfolding updateBinaryChecks
   update-word = refl
 
   module _ (there : IsFile c (binaryTarget c (framed cmd))) (fits : offset (framed cmd) + length (framed cmd .given) ≤ size (fileNo c (binaryTarget c (framed cmd))))
-      (e : word UpdateBinary c area (framed cmd) ≡ 0x9000) where
+      (e : first (updateBinaryChecks c (framed cmd)) ≡ 0x9000) where
     abbrev m : ℕ
     m = binaryTarget c (framed cmd)
 
     abbrev d : List ℕ
     d = framed cmd .given
 
-    abbrev y : Stepped
-    y = step c area cmd random
+    stores-it : Settled c area (storing (withCurrent (withDirectory c (withFile (c .directory) (m - 1) (fileNo c m))) m) (start (c .directory) m + offset (framed cmd)) d) s
+    stores-it = stored c area m (start (c .directory) m + offset (framed cmd)) d s (serves r e)
 
-    settled : Settled c area (storing (withCurrent c (binaryTarget c (framed cmd))) (start (c .directory) (binaryTarget c (framed cmd)) + offset (framed cmd)) (framed cmd .given)) (step c area cmd random)
-    unfolding effectOf rule
-    settled = serves r e
-
-    kept : Settled c area (storing (withCurrent (withDirectory c (withFile (c .directory) (m - 1) (fileNo c m))) m) (start (c .directory) m + offset (framed cmd)) d) y
-    kept = stored c area m (start (c .directory) m + offset (framed cmd)) d y settled
-
-    updated : BinaryUpdated c area random (framed cmd) (step c area cmd random) (binaryTarget c (framed cmd))
+    updated : BinaryUpdated c area random cmd s (binaryTarget c (framed cmd))
     updated = record {
-      written = writes c area (r .card-sound) m there (fileNo c m) (offset (framed cmd)) d y kept refl refl fits;
-      file-is = now-file c area (r .card-sound) m there (fileNo c m) (offset (framed cmd)) d y kept refl refl fits;
-      bytes-are = stores c area (r .card-sound) m there (fileNo c m) (offset (framed cmd)) d y kept refl refl fits;
+      written = writes c area (r .card-sound) m there (fileNo c m) (offset (framed cmd)) d s stores-it refl refl fits;
+      file-is = now-file c area (r .card-sound) m there (fileNo c m) (offset (framed cmd)) d s stores-it refl refl fits;
+      bytes-are = stores c area (r .card-sound) m there (fileNo c m) (offset (framed cmd)) d s stores-it refl refl fits;
     }
 
-  updates : answers.UpdateBinary c area random (framed cmd) (step c area cmd random)
+  updates : answers.UpdatesBinary c area random cmd s
   updates =
       let file = fileNo c (binaryTarget c (framed cmd)) in
-      asks-binary r 3 (λ (f : File). f .write) (lc (framed cmd)) _ update-word (λ there low e.
+      asks-binary r random cmd (λ (f : File). f .write) (lc (framed cmd)) _ update-word (λ there low e.
       check r (leb (offset (framed cmd) + lc (framed cmd)) (size file)) 0x6700 [] (λ z. rw (size-is file) (leb-true _ _ z))
       (λ q. le-leb _ _ (rw (size-is file) at q)) refl e (λ q z. updated there (rw (size-is file) at q) (z .is)))
 
+module _ (c : Card) (area cmd random : List ℕ) (v : Sends c area cmd random UpdateBinary) where
+  update-binary : answers.UpdateBinary c area random cmd (step c area cmd random)
+  unfolding rule updateBinaryChecks target
+  update-binary =
+      contents v updateBinaryFront (λ c l k. updateBinaryChecks c k) (λ c l k. updateBinaryDeed c k) refl (λ x. answers.UpdatesBinary x area random cmd (step c area cmd random))
+      (ltb (framed cmd .p1) 0x80 || bySfi (framed cmd)) (write-test cmd) refl (p-to (framed cmd)) (to-p (framed cmd)) (write-to cmd) (to-write cmd) (write-four cmd)
+      (λ xs p q r. updates (withCredentials c xs) area random cmd (step c area cmd random) r)
+
 pub update-binary-answers : UpdateBinaryAnswers
 unfolding find rows
-update-binary-answers = by-name 0x00 0xD6 answers.UpdateBinary UpdateBinary (inl refl) refl refl updates
+update-binary-answers = by-either 0xD6 answers.UpdateBinary UpdateBinary refl refl refl update-binary

@@ -3,6 +3,7 @@ use Prim.Native.Nat.{ℕ, _+_, _/_, _%_, _≤_}
 use mathlib.Core.Bool.{Bool, true, false}
 use mathlib.Core.List.{List, [], _∷_, _++_, map, append-assoc}
 use mathlib.Core.Path.{_≡_, refl, sym, ap, _∙_}
+use native.Mathlib.Omega.{arith}
 use lib.Dec.{eqb, leb}
 use lib.ListN.{length, take, drop, getD, length-append}
 use borrow.Author.Tests.{eqb-true, eq-eqb, leb-true, le-leb}
@@ -13,17 +14,17 @@ use Rattle.rules.specs.declared.Card.{Card}
 use Rattle.rules.specs.declared.Credential.{Credential}
 use Rattle.rules.specs.Words.{unless, allOf, swBytes}
 use Rattle.rules.specs.Tries.{goodLimit, full}
-use Rattle.rules.specs.State.{Which, mode, device, admin, user, numberOf, howMany, whiches, credentialOf, noCredential, marked}
+use Rattle.rules.specs.State.{Which, mode, device, admin, user, transport, numberOf, howManyRights, whiches, credentialOf, noCredential, marked}
 use Rattle.rules.specs.Sound.{digit, goodLength, goodPin, goodValue, sound}
 use Rattle.rules.specs.Binary.{opens}
 use Rattle.rules.specs.Step.{step}
 use Rattle.rules.specs.Calls.{Done, refused, served, Order, goodGiven, goodOrder, command, issue, reset}
 use Rattle.rules.proofs.Good.{for-which, filled-back, at-which, zero-at, waits-back}
-use Rattle.demands.specs.Ledger.{isHeld, page, ledger}
+use Rattle.demands.specs.Ledger.{isHeld, opensRight, page, ledger}
 use Rattle.demands.specs.Run.{after}
-use Rattle.demands.specs.Held.{rightNo, Opens, heldOn}
+use Rattle.demands.specs.Held.{rightNo, bitOf, Opens, heldOn}
 use Rattle.demands.proofs.Bound.{credentials-follow}
-use Rattle.demands.proofs.Named.{opens-asked, asked-opens, opens-by}
+use Rattle.demands.proofs.Named.{opens-asked, asked-opens}
 use Rattle.served.specs.Left.{Ask}
 use Rattle.served.specs.Calls.{TurnedAway, Carried, CommandAnswers, NotIssued, GoodPin, GoodOrder, Fresh, IssueAnswers, NotReset, Ended, ResetAnswers, RightsBothWays, OpensFollows}
 use Rattle.served.proofs.Credentials.{digits-to, to-digits}
@@ -75,7 +76,7 @@ reset-answers c area =
     (record {
       outcome-is = refl;
       count-is = refl;
-      no-rights = λ n. zero-at n howMany;
+      no-rights = λ n. zero-at n howManyRights;
       none-current = refl;
       in-root = refl;
       no-challenge = record { length-is = refl; bytes-are = refl };
@@ -106,9 +107,10 @@ module _ (o : Order) where
       λ w. both (goodValue (numberOf w) (o .given w .value)) (goodLimit (o .given w .limit)) (given w) .0 in
       let limit : (w : Which) → goodLimit (o .given w .limit) ≡ true = λ w. both (goodValue (numberOf w) (o .given w .value)) (goodLimit (o .given w .limit)) (given w) .1 in
       record {
-        key = eqb-true _ _ (value device);
+        device-key = eqb-true _ _ (value device);
         admin-pin = pin-to (o .given admin .value) (value admin);
         user-pin = pin-to (o .given user .value) (value user);
+        transport-key = eqb-true _ _ (value transport);
         limits = λ w. let q = both (leb 1 (o .given w .limit)) (leb (o .given w .limit) 128) (limit w) in (leb-true _ _ (q .0), leb-true _ _ (q .1));
         mode = leb-true _ _ (e .1);
       }
@@ -119,8 +121,8 @@ module _ (o : Order) where
       let limit : (w : Which) → goodLimit (o .given w .limit) ≡ true =
       λ w. join (le-leb 1 (o .given w .limit) (g .limits w .0)) (le-leb (o .given w .limit) 128 (g .limits w .1)) in
       join
-      (join (join (eq-eqb (length (o .given device .value)) 16 (g .key)) (limit device))
-      (join (join (to-pin (o .given admin .value) (g .admin-pin)) (limit admin)) (join (to-pin (o .given user .value) (g .user-pin)) (limit user))))
+      (join (join (eq-eqb (length (o .given device .value)) 16 (g .device-key)) (limit device))
+      (join (join (to-pin (o .given admin .value) (g .admin-pin)) (limit admin)) (join (join (to-pin (o .given user .value) (g .user-pin)) (limit user)) (join (eq-eqb (length (o .given transport .value)) 16 (g .transport-key)) (limit transport)))))
       (le-leb (o .mode) 1 (g .mode))
 
   abbrev credentialGiven : Which → Credential
@@ -143,7 +145,7 @@ issue-answers o area =
       values-are = λ w. ap (λ (x : Credential). take (x .len) (x .value)) (is-fresh o w) ∙ filled-back (o .given w .value);
       left-are = λ w. ap (λ (x : Credential). x .tries .left) (is-fresh o w);
       limits-are = λ w. ap (λ (x : Credential). x .tries .limit) (is-fresh o w);
-      no-rights = λ n. zero-at n howMany;
+      no-rights = λ n. zero-at n howManyRights;
       no-files = refl;
       no-directories = refl;
       none-current = refl;
@@ -162,8 +164,23 @@ rights-both-ways c byte = (λ o. rw (asked-opens c byte o), λ n. shut (opens c 
     shut true e n = absurd (n (opens-asked c byte e))
     shut false e n = refl
 
+asked-right : (byte : ℕ) (w : Which) → bitOf w byte ≡ 1 → opensRight w ≡ true
+asked-right byte device b = refl
+asked-right byte admin b = refl
+asked-right byte user b = refl
+asked-right byte transport b = absurd (omega (arith, b))
+
+-- what opens by one way of holding rights opens by another: none that a byte asks for is the transport key's
+opens-other : {held other : Which → Type 0} (byte : ℕ) → ((w : Which) → opensRight w ≡ true → held w → other w) → Opens held byte → Opens other byte
+opens-other byte f o = record {
+  all = λ e w b. f w (asked-right byte w b) (o .all e w b);
+  any = λ e. let one = o .any e in record { which = one .which; asked = one .asked; is-held = f (one .which) (asked-right byte (one .which) (one .asked)) (one .is-held) };
+  not-never = o .not-never;
+}
+
 pub opens-follows : OpensFollows
 opens-follows o area es h byte =
     let c = after o area es .card in
-    let told : (w : Which) → marked (rightNo c (numberOf w)) ≡ isHeld (page w (ledger o es) .history) = λ w. credentials-follow o area es h w .held-is in
-    (opens-by byte (λ w e. eqb-true _ _ (told w ∙ e)), opens-by byte (λ w e. sym (told w) ∙ eq-eqb _ _ e))
+    let told : (w : Which) → opensRight w ≡ true → marked (rightNo c (numberOf w)) ≡ isHeld (page w (ledger o es) .history) =
+    λ w q. credentials-follow o area es h w .held-is ∙ rw q in
+    (opens-other byte (λ w q e. eqb-true _ _ (told w q ∙ e)), opens-other byte (λ w q e. sym (told w q) ∙ eq-eqb _ _ e))

@@ -1,5 +1,5 @@
 -- CREATE FILE: a file, or a directory.
-use Prim.Native.Nat.{ℕ, _+_, _-_, _/_, _%_, _≤_, _<_}
+use Prim.Native.Nat.{ℕ, _+_, _-_, _*_, _/_, _%_, _≤_, _<_}
 use mathlib.Core.Bool.{Bool, true, false, cond, _&&_, _||_, not}
 use mathlib.Core.List.{List, [], _∷_}
 use mathlib.Core.Logic.{_⊎_, inl, inr, ⊎-elim, by-cases}
@@ -17,7 +17,7 @@ use Rattle.files.specs.Words.{isZero}
 use Rattle.files.specs.Part.{part, splice, zeros}
 use Rattle.files.specs.State.{blankFolder, newFile, inFolder, emptied, newFolder, oneMoreFolder}
 use Rattle.files.specs.Types.{fixed, cyclic, isVariable, sizedInBytes, hasRecords, goodLength, count, recordLength, size, goodShape}
-use Rattle.files.specs.Rights.{never, goodRights}
+use Rattle.files.specs.Rights.{never, goodRights, goodFileRights}
 use Rattle.files.specs.Directory.{fid, sfi, goodSfi, used, file, extent, end, findFid, findSfi, folder, findFolder}
 use Rattle.files.specs.Create.{goodContents, apart, nameUnused, room, created, creates, fidUnused, folderRoom, founded}
 use Rattle.files.proofs.Checks.{clash, both, join, each, all, split}
@@ -29,14 +29,14 @@ use Rattle.files.proofs.Kept.{filed}
 use Rattle.rules.specs.declared.Card.{Card}
 use Rattle.rules.specs.declared.Ins.the-variants.{CreateFile}
 use Rattle.rules.specs.Words.{unless, first, byte}
-use Rattle.rules.specs.State.{Which, device, admin, user, numberOf}
+use Rattle.rules.specs.State.{Which, device, admin, user, transport, numberOf}
 use Rattle.rules.specs.Sound.{sound}
 use Rattle.rules.specs.Frame.{Command, framed, p, lc}
 use Rattle.rules.specs.Binary.{opens}
 use Rattle.rules.specs.Effect.{makes, founds}
 use Rattle.rules.specs.Create.{fileGiven, isFolder, folderGiven, goodFolderGiven, creationRight, createChecks, making, founding, createDeed}
 use Rattle.rules.specs.List.{find, rows, rule}
-use Rattle.rules.specs.Step.{did, checks, effectOf, Stepped, step}
+use Rattle.rules.specs.Step.{did, checks, effectOf, kept, Stepped, step}
 use Rattle.rules.proofs.Checks.{Passed, passed, one-of, either}
 use Rattle.rules.proofs.Good.{Good, sound-good}
 use Rattle.rules.proofs.Asked.{create-asked}
@@ -44,7 +44,7 @@ use Rattle.demands.specs.Held.{fileNo, startNo, bytesNo, IsFolder, tagOf, tagNo
 use Rattle.demands.specs.Ledger.{sizeOf, fidOfTag}
 use Rattle.demands.proofs.Named.{the-sfi, found-sfi, the-fid, found-fid, the-folder, found-folder, opens-asked, asked-opens}
 use Rattle.demands.proofs.View.{size-is, start-is, bytes-in}
-use Rattle.served.specs.Answers.{GoodSize, GoodRight, FileFree, FolderFree, FolderGiven, FileMade, FolderMade, CreateFileAnswers, GoodContents}
+use Rattle.served.specs.Answers.{GoodSize, GoodRight, GoodFileRight, FileFree, FolderFree, FolderGiven, FileMade, FolderMade, CreateFileAnswers, GoodContents}
 use Rattle.served.specs.Answers as answers
 use Rattle.served.proofs.Steps.{Settled, word, Rest, Runs, by-name, serves, check}
 
@@ -59,6 +59,48 @@ pub to-right : (b : ℕ) → GoodRight b → goodRights b ≡ true
 unfolding goodRights
 to-right b =
     ⊎-elim (λ e. rw (eq-eqb b never e)) (λ q. either (eqb b never) (join (eq-eqb (b / 4 % 16) 0 (q .0)) (rw (ne-eqb b 2 (q .1)))))
+
+-- a file's: what is left without bit 3 is good
+twice : (n : ℕ) → 2 * n % 16 ≡ 0 → n % 8 ≡ 0
+twice n e = let q : 2 * n / 16 ≡ n / 8 = omega arith in omega arith
+
+twice-back : (n : ℕ) → n % 8 ≡ 0 → 2 * n % 16 ≡ 0
+twice-back n e = let q : 2 * n / 16 ≡ n / 8 = omega arith in omega arith
+
+module _ (b : ℕ) where
+  -- bit 3 clear, and set
+  plain-half : b / 4 % 2 ≡ 0 → b / 4 ≡ 2 * (b / 8)
+  plain-half z = omega arith
+
+  coded-half : b / 4 % 2 ≡ 1 → (b - 4) / 4 ≡ 2 * (b / 8)
+  coded-half z = omega arith
+
+  plain-left : b / 4 % 2 ≡ 0 → b - 4 * (b / 4 % 2) ≡ b
+  plain-left z = omega arith
+
+  coded-left : b / 4 % 2 ≡ 1 → b - 4 * (b / 4 % 2) ≡ b - 4
+  coded-left z = omega arith
+
+  file-right-to : goodFileRights b ≡ true → GoodFileRight b
+  unfolding goodFileRights
+  file-right-to h =
+      one-of (eqb b never) (goodRights (b - 4 * (b / 4 % 2))) h (λ e. inl (eqb-true _ _ e))
+      (λ q. by-cases (ℕ-discrete (b / 4 % 2) 0)
+      (λ z. ⊎-elim inl (λ g. inr (twice (b / 8) (rw (plain-half z) at (g .0)), g .1, λ e. omega (arith, z, e))) (right-to b (rw (plain-left z) at q)))
+      (λ o. let one : b / 4 % 2 ≡ 1 = omega (arith, o) in
+      ⊎-elim (λ e. absurd (omega (arith, e, one)))
+      (λ g. let two = g .1 in inr (twice (b / 8) (rw (coded-half one) at (g .0)), (λ e. omega (arith, e, one)), λ e. two (omega (arith, e)))) (right-to (b - 4) (rw (coded-left one) at q))))
+
+  to-file-right : GoodFileRight b → goodFileRights b ≡ true
+  unfolding goodFileRights
+  to-file-right =
+      ⊎-elim (λ e. rw (eq-eqb b never e))
+      (λ g. either (eqb b never)
+      (by-cases (ℕ-discrete (b / 4 % 2) 0)
+      (λ z. rw (plain-left z) (to-right b (inr (rw (plain-half z) (twice-back (b / 8) (g .0)), g .1))))
+      (λ o. let one : b / 4 % 2 ≡ 1 = omega (arith, o) in
+      let six = g .2 in
+      rw (coded-left one) (to-right (b - 4) (inr (rw (coded-half one) (twice-back (b / 8) (g .0)), λ e. six (omega (arith, e, one))))))))
 
 -- a size in bytes
 in-bytes : (f : File) → sizedInBytes f ≡ true → count f ≡ sizeOf (labelOf f)
@@ -106,11 +148,11 @@ shape-to f =
 pub contents-to : (f : File) → goodContents f ≡ true → GoodContents (labelOf f)
 unfolding goodContents
 contents-to f h =
-    let e = each (goodShape f ∷ goodRights (f .read) ∷ goodRights (f .write) ∷ []) h in (shape-to f (e .0), (right-to (f .read) (e .1 .0), right-to (f .write) (e .1 .1)))
+    let e = each (goodShape f ∷ goodFileRights (f .read) ∷ goodFileRights (f .write) ∷ []) h in (shape-to f (e .0), (file-right-to (f .read) (e .1 .0), file-right-to (f .write) (e .1 .1)))
 
 pub to-contents : (f : File) → GoodContents (labelOf f) → goodContents f ≡ true
 unfolding goodContents
-to-contents f q = all (goodShape f ∷ goodRights (f .read) ∷ goodRights (f .write) ∷ []) (to-shape f (q .0), (to-right (f .read) (q .1 .0), to-right (f .write) (q .1 .1)))
+to-contents f q = all (goodShape f ∷ goodFileRights (f .read) ∷ goodFileRights (f .write) ∷ []) (to-shape f (q .0), (to-file-right (f .read) (q .1 .0), to-file-right (f .write) (q .1 .1)))
 
 -- ---- what is free on a card
 -- nothing is found exactly where nothing has the name
@@ -201,6 +243,7 @@ device-byte c h = record { all = λ z. go; any = λ z. absurd (omega (arith, z))
     go device q = h
     go admin q = absurd (omega (arith, q))
     go user q = absurd (omega (arith, q))
+    go transport q = absurd (omega (arith, q))
 
 module _ (c : Card) (k : Command) where
   pub may-to : opens c (creationRight c) ≡ true → MayCreate (heldOn c) (c .session .folder) (tagNo c (c .session .folder) .create)
@@ -321,7 +364,7 @@ module _ (c : Card) (area cmd random : List ℕ) (r : Runs c area cmd random Cre
       new-is : fileNo (s .card) (d .count + 1) ≡ emptied f
       new-is = ap (λ (y : Directory). file y (d .count + 1)) (settled .directory-is) ∙ new-file d f area sixteen makes-it
 
-      made : FileMade c area random (framed cmd) (step c area cmd random)
+      made : FileMade c area random cmd (step c area cmd random)
       unfolding part
       made = record {
         says = settled .says;
@@ -357,7 +400,7 @@ module _ (c : Card) (area cmd random : List ℕ) (r : Runs c area cmd random Cre
       here : c .directory .number < length (c .directory .folders)
       here = let q = filed (c .directory) (sound-good c area (r .card-sound) .directory) .folders .places in omega (arith, room, q)
 
-      founded-so : FolderMade c area random (framed cmd) (step c area cmd random)
+      founded-so : FolderMade c area random cmd (step c area cmd random)
       unfolding part splice
       founded-so = record {
         says = founded-in .says;
@@ -385,7 +428,7 @@ module _ (c : Card) (area cmd random : List ℕ) (r : Runs c area cmd random Cre
       ∷ unless (cond b (folderRoom (c .directory)) (room (c .directory) f)) 0x6A84
       ∷ []
 
-  new-file-made : Rest (word CreateFile c area (framed cmd)) (rest-by false) → (byte (framed cmd .given) 0 ≡ 0x38 → ⊥) → answers.NewFile c area random (framed cmd) (step c area cmd random)
+  new-file-made : Rest (word CreateFile c area (framed cmd)) (rest-by false) → (byte (framed cmd .given) 0 ≡ 0x38 → ⊥) → answers.NewFile c area random cmd (step c area cmd random)
   new-file-made e other =
       check r (goodContents f) 0x6A80 _ (contents-to f) (to-contents f) refl e (λ g e4.
       check r (nameUnused d f) 0x6986 _
@@ -393,7 +436,7 @@ module _ (c : Card) (area cmd random : List ℕ) (r : Runs c area cmd random Cre
       check r (room d f) 0x6A84 [] (room-to c area (r .card-sound) f) (to-room c area (r .card-sound) f) refl e5 (λ o e6.
       made (e6 .is) other)))
 
-  new-folder-made : Rest (word CreateFile c area (framed cmd)) (rest-by true) → byte (framed cmd .given) 0 ≡ 0x38 → answers.NewFolder c area random (framed cmd) (step c area cmd random)
+  new-folder-made : Rest (word CreateFile c area (framed cmd)) (rest-by true) → byte (framed cmd .given) 0 ≡ 0x38 → answers.NewFolder c area random cmd (step c area cmd random)
   new-folder-made e this =
       check r (goodFolderGiven k) 0x6A80 _ (given-to c k) (to-given c k) refl e (λ g e4.
       check r (fidUnused d (p k)) 0x6986 _
@@ -401,7 +444,7 @@ module _ (c : Card) (area cmd random : List ℕ) (r : Runs c area cmd random Cre
       check r (folderRoom d) 0x6A84 [] (ltb-true _ _) (lt-ltb _ _) refl e5 (λ o e6.
       founded-so (e6 .is) this o)))
 
-  creating : answers.CreateFile c area random (framed cmd) (step c area cmd random)
+  creating : answers.CreateFile c area random cmd (step c area cmd random)
   unfolding createChecks fileGiven
   creating =
       check r (goodSfi (p k % 32)) 0x6A86 _
@@ -417,5 +460,5 @@ module _ (c : Card) (area cmd random : List ℕ) (r : Runs c area cmd random Cre
       )))))
 
 pub create-file-answers : CreateFileAnswers
-unfolding find rows
-create-file-answers = by-name 0x80 0xE0 answers.CreateFile CreateFile (inr refl) refl refl creating
+unfolding find rows kept rule
+create-file-answers = by-name 0x80 0xE0 answers.CreateFile CreateFile (inr (inl refl)) refl refl (λ c k. refl) creating

@@ -27,7 +27,7 @@ use Rattle.rules.specs.Effect.{Effect, answers as answered}
 use Rattle.rules.specs.Pins.{comparedAt, pinNamed, pinGiven, triesSw, digitsSw, heldSw, querySw, verifyChecks, changeChecks, reloadChecks}
 use Rattle.rules.specs.Device.{cryptogram, authenticateChecks, getChallengeChecks}
 use Rattle.rules.specs.List.{find, rows, rule}
-use Rattle.rules.specs.Step.{checks, effectOf, Stepped, step}
+use Rattle.rules.specs.Step.{checks, effectOf, kept, Stepped, step}
 use Rattle.rules.proofs.Checks.{one-of, either}
 use Rattle.rules.proofs.Good.{Good, sound-good, said-short, filled-back}
 use Rattle.rules.proofs.Equal.{same-equal, equal-same, cryptogram-is}
@@ -182,15 +182,15 @@ compared-unequal n c a b o = go (same a b) refl
     go true e = absurd (o (same-equal a b e))
     go false e = refl
 
-compares : (c : Card) (area random : List ℕ) (k : Command) (s : Stepped) → sound c area ≡ true → (n : ℕ) → n < 3 → (expected : List ℕ)
-    → Settled c area (comparedAt n c (same expected (k .given))) s → Compared c area random k s n expected
-compares c area random k s h n low expected q = record {
+compares : (c : Card) (area random cmd : List ℕ) (s : Stepped) → sound c area ≡ true → (n : ℕ) → n < 3 → (expected : List ℕ)
+    → Settled c area (comparedAt n c (same expected (framed cmd .given))) s → Compared c area random cmd s n expected
+compares c area random cmd s h n low expected q = record {
   equal = λ e.
-      credited c area 0x9000 n _ (valueNo c n) (limitNo c n) 1 s (subst (λ (x : Effect). Settled c area x s) (compared-equal n c expected (k .given) e) q)
+      credited c area 0x9000 n _ (valueNo c n) (limitNo c n) 1 s (subst (λ (x : Effect). Settled c area x s) (compared-equal n c expected (framed cmd .given) e) q)
       (put-login c (sound-good c area h) n low (restored (loginAt n c .tries)) true refl);
   unequal = λ o.
       subst (λ w. Credited c area w n (valueNo c n) (leftNo c n - 1) 0 s) (counted-is (leftNo c n - 1))
-      (credited c area (countSw (leftNo c n - 1)) n _ (valueNo c n) (leftNo c n - 1) 0 s (subst (λ (x : Effect). Settled c area x s) (compared-unequal n c expected (k .given) o) q)
+      (credited c area (countSw (leftNo c n - 1)) n _ (valueNo c n) (leftNo c n - 1) 0 s (subst (λ (x : Effect). Settled c area x s) (compared-unequal n c expected (framed cmd .given) o) q)
       (put-login c (sound-good c area h) n low (lowered (loginAt n c .tries)) false refl));
 }
 
@@ -215,7 +215,7 @@ module _ (c : Card) (area cmd random : List ℕ) (r : Runs c area cmd random Ver
   query-left one e =
       quiet c area 0x9000 (c .session .current) [] 0 0 [] (step c area cmd random) (rw (eq-eqb (framed cmd .case) 1 one) at (serves r e)) refl
 
-  queries : (n : ℕ) → framed cmd .case ≡ 1 → word Verify c area (framed cmd) ≡ querySw (loginAt n c) → Queried c area random (framed cmd) (step c area cmd random) n
+  queries : (n : ℕ) → framed cmd .case ≡ 1 → word Verify c area (framed cmd) ≡ querySw (loginAt n c) → Queried c area random cmd (step c area cmd random) n
   queries n one e = record {
     held = λ h. query-left one (e ∙ rw (eq-eqb (rightNo c n) 1 h));
     blocked = λ o z. refuses r 0x6983 (λ y. omega (arith, y)) (e ∙ rw (ne-eqb (rightNo c n) 1 o, eq-eqb (leftNo c n) 0 z));
@@ -232,12 +232,12 @@ module _ (c : Card) (area cmd random : List ℕ) (r : Runs c area cmd random Ver
 
   presents-pin : (n : ℕ) → numberOf (pinNamed (framed cmd)) ≡ n → n < 3 → framed cmd .case ≡ 3
       → Rest (word Verify c area (framed cmd)) (triesSw (loginAt n c) ∷ digitsSw (framed cmd) ∷ [])
-      → answers.ask c area random (framed cmd) (step c area cmd random) (1 ≤ leftNo c n) 0x6983
-      (answers.ask c area random (framed cmd) (step c area cmd random) (Digits (framed cmd .given)) 0x6A80 (Compared c area random (framed cmd) (step c area cmd random) n (valueNo c n)))
+      → answers.ask c area random cmd (step c area cmd random) (1 ≤ leftNo c n) 0x6983
+      (answers.ask c area random cmd (step c area cmd random) (Digits (framed cmd .given)) 0x6A80 (Compared c area random cmd (step c area cmd random) n (valueNo c n)))
   presents-pin n q low three e =
       check r (not (isZero (leftNo c n))) 0x6983 _ (some-to (leftNo c n)) (to-some (leftNo c n)) refl e (λ some e1.
       check r (allOf digit (k .given)) 0x6A80 [] (digits-to (k .given)) (to-digits (k .given)) refl e1 (λ d e2.
-      compares c area random k s (r .card-sound) n low (valueNo c n)
+      compares c area random cmd s (r .card-sound) n low (valueNo c n)
       (subst (λ m. Settled c area (comparedAt m c (same (valueNo c m) (k .given))) s) q (presented three (e2 .is)))))
 
   -- one or the other, by the case
@@ -245,11 +245,11 @@ module _ (c : Card) (area cmd random : List ℕ) (r : Runs c area cmd random Ver
   named = cond (eqb (framed cmd .case) 1) (querySw (login (pinNamed (framed cmd)) c)) (first (triesSw (login (pinNamed (framed cmd)) c) ∷ digitsSw (framed cmd) ∷ []))
 
   by-case : framed cmd .p2 ≤ 1 → Rest (word Verify c area (framed cmd)) (named ∷ [])
-      → (framed cmd .case ≡ 1 → Queried c area random (framed cmd) (step c area cmd random) (framed cmd .p2 + 1))
+      → (framed cmd .case ≡ 1 → Queried c area random cmd (step c area cmd random) (framed cmd .p2 + 1))
       × (framed cmd .case ≡ 3
-      → answers.ask c area random (framed cmd) (step c area cmd random) (1 ≤ leftNo c (framed cmd .p2 + 1)) 0x6983
-      (answers.ask c area random (framed cmd) (step c area cmd random) (Digits (framed cmd .given)) 0x6A80
-      (Compared c area random (framed cmd) (step c area cmd random) (framed cmd .p2 + 1) (valueNo c (framed cmd .p2 + 1)))))
+      → answers.ask c area random cmd (step c area cmd random) (1 ≤ leftNo c (framed cmd .p2 + 1)) 0x6983
+      (answers.ask c area random cmd (step c area cmd random) (Digits (framed cmd .given)) 0x6A80
+      (Compared c area random cmd (step c area cmd random) (framed cmd .p2 + 1) (valueNo c (framed cmd .p2 + 1)))))
   by-case low e =
       let pin = pin-number (framed cmd) low in
       let query : framed cmd .case ≡ 1 → named ≡ querySw (loginAt (framed cmd .p2 + 1) c) = λ one. rw (eq-eqb (framed cmd .case) 1 one, pin) in
@@ -259,7 +259,7 @@ module _ (c : Card) (area cmd random : List ℕ) (r : Runs c area cmd random Ver
         λ three. presents-pin (framed cmd .p2 + 1) pin (omega (arith, low)) three (record { is = e .is ∙ given three }),
       )
 
-  verifies : answers.Verify c area random (framed cmd) (step c area cmd random)
+  verifies : answers.Verify c area random cmd (step c area cmd random)
   unfolding verifyChecks
   verifies =
       check r (eqb (k .p1) 0x00 && leb (k .p2) 0x01) 0x6A86 _
@@ -270,8 +270,8 @@ module _ (c : Card) (area cmd random : List ℕ) (r : Runs c area cmd random Ver
       (⊎-elim (λ z. rw (eq-eqb _ _ z)) (λ z. either (eqb (k .case) 1) (to-given k z))) refl e1 (λ z e2. by-case (q .1) e2))
 
 pub verify-answers : VerifyAnswers
-unfolding find rows
-verify-answers = by-name 0x00 0x20 answers.Verify Verify (inl refl) refl refl verifies
+unfolding find rows kept rule
+verify-answers = by-name 0x00 0x20 answers.Verify Verify (inl refl) refl refl (λ c k. refl) verifies
 
 -- a right is held
 held-to : (n : ℕ) → marked n ≡ true → n ≡ 1
@@ -290,9 +290,9 @@ module _ (c : Card) (area cmd random : List ℕ) (r : Runs c area cmd random Cha
 
   changes-pin : (n : ℕ) → numberOf (pinNamed (framed cmd)) ≡ n → n < 3
       → Rest (word ChangePin c area (framed cmd)) (unless (pinGiven (framed cmd)) 0x6700 ∷ heldSw (loginAt (numberOf (pinNamed (framed cmd))) c) ∷ digitsSw (framed cmd) ∷ [])
-      → answers.ask c area random (framed cmd) (step c area cmd random) ((framed cmd .case ≡ 3) × (6 ≤ length (framed cmd .given)) × (length (framed cmd .given) ≤ 16)) 0x6700
-      (answers.ask c area random (framed cmd) (step c area cmd random) (rightNo c n ≡ 1) 0x6982
-      (answers.ask c area random (framed cmd) (step c area cmd random) (Digits (framed cmd .given)) 0x6A80
+      → answers.ask c area random cmd (step c area cmd random) ((framed cmd .case ≡ 3) × (6 ≤ length (framed cmd .given)) × (length (framed cmd .given) ≤ 16)) 0x6700
+      (answers.ask c area random cmd (step c area cmd random) (rightNo c n ≡ 1) 0x6982
+      (answers.ask c area random cmd (step c area cmd random) (Digits (framed cmd .given)) 0x6A80
       (Credited c area 0x9000 n (framed cmd .given) (leftNo c n) (rightNo c n) (step c area cmd random))))
   changes-pin n q low e =
       check r (pinGiven (framed cmd)) 0x6700 (heldSw (loginAt n c) ∷ digitsSw (framed cmd) ∷ []) (given-to (framed cmd)) (to-given (framed cmd)) refl
@@ -303,7 +303,7 @@ module _ (c : Card) (area cmd random : List ℕ) (r : Runs c area cmd random Cha
       (subst (λ m. Settled c area (answered 0x9000 (withValueAt m c (framed cmd .given))) (step c area cmd random)) q (changed (e3 .is)))
       (put-value c (sound-good c area (r .card-sound)) n low (framed cmd .given)))))
 
-  changing : answers.ChangePin c area random (framed cmd) (step c area cmd random)
+  changing : answers.ChangePin c area random cmd (step c area cmd random)
   unfolding changeChecks
   changing =
       check r (eqb (framed cmd .p1) 0x01 && leb (framed cmd .p2) 0x01) 0x6A86 _
@@ -312,8 +312,8 @@ module _ (c : Card) (area cmd random : List ℕ) (r : Runs c area cmd random Cha
       (λ q e1. changes-pin (framed cmd .p2 + 1) (pin-number (framed cmd) (q .1)) (omega (arith, q .1)) e1)
 
 pub change-pin-answers : ChangePinAnswers
-unfolding find rows
-change-pin-answers = by-name 0x00 0x24 answers.ChangePin ChangePin (inl refl) refl refl changing
+unfolding find rows kept rule
+change-pin-answers = by-name 0x00 0x24 answers.ChangePin ChangePin (inl refl) refl refl (λ c k. refl) changing
 
 -- ---- RELOAD PIN
 module _ (c : Card) (area cmd random : List ℕ) (r : Runs c area cmd random ReloadPin) where
@@ -326,7 +326,7 @@ module _ (c : Card) (area cmd random : List ℕ) (r : Runs c area cmd random Rel
   unfolding effectOf rule
   reloaded e = serves r e
 
-  reloading : answers.ReloadPin c area random (framed cmd) (step c area cmd random)
+  reloading : answers.ReloadPin c area random cmd (step c area cmd random)
   unfolding reloadChecks
   reloading =
       check r (eqb (p (framed cmd)) 0x0201) 0x6A86 _ (eqb-true _ _) (eq-eqb _ _) refl (record { is = reload-word }) (λ z e1.
@@ -337,12 +337,12 @@ module _ (c : Card) (area cmd random : List ℕ) (r : Runs c area cmd random Rel
       (put-both c (sound-good c area (r .card-sound)) 2 (omega arith) (framed cmd .given) (restored (loginAt 2 c .tries)) false refl)))))
 
 pub reload-pin-answers : ReloadPinAnswers
-unfolding find rows
-reload-pin-answers = by-name 0x00 0x2C answers.ReloadPin ReloadPin (inl refl) refl refl reloading
+unfolding find rows kept rule
+reload-pin-answers = by-name 0x00 0x2C answers.ReloadPin ReloadPin (inl refl) refl refl (λ c k. refl) reloading
 
 -- ---- EXTERNAL AUTHENTICATE
 -- a challenge is as long as it says
-challenge-long : (c : Card) (area : List ℕ) → sound c area ≡ true → length (challenge c) ≡ c .session .len
+pub challenge-long : (c : Card) (area : List ℕ) → sound c area ≡ true → length (challenge c) ≡ c .session .len
 unfolding soundChallenge
 challenge-long c area h =
     let e = each (eqb (length (c .session .challenge)) 16 ∷ (isZero (c .session .len) || goodChallenge (c .session .len)) ∷ allOf isZero (drop (c .session .len) (c .session .challenge)) ∷ [])
@@ -357,7 +357,7 @@ module _ (c : Card) (area cmd random : List ℕ) (r : Runs c area cmd random Aut
   authenticate-word = refl
 
   abbrev expected : List ℕ
-  expected = answers.cryptogram c area random (framed cmd) (step c area cmd random)
+  expected = answers.cryptogram c area random cmd (step c area cmd random)
 
   expected-is : cryptogram (valueNo c 0) (challenge c) ≡ expected
   expected-is = cryptogram-is (valueNo c 0) (challenge c) ∙ ap (λ n. aes128 (valueNo c 0) (challenge c ++ replicate (16 - n) 0)) (challenge-long c area (r .card-sound))
@@ -366,7 +366,7 @@ module _ (c : Card) (area cmd random : List ℕ) (r : Runs c area cmd random Aut
   unfolding effectOf rule
   shown-key e = serves r e
 
-  authenticating : answers.Authenticate c area random (framed cmd) (step c area cmd random)
+  authenticating : answers.Authenticate c area random cmd (step c area cmd random)
   unfolding authenticateChecks
   authenticating =
       let long = challenge-long c area (r .card-sound) in
@@ -377,12 +377,12 @@ module _ (c : Card) (area cmd random : List ℕ) (r : Runs c area cmd random Aut
       check r (not (isZero (leftNo c 0))) 0x6983 _ (some-to (leftNo c 0)) (to-some (leftNo c 0)) refl e2 (λ some e3.
       check r (not (isZero (length (challenge c)))) 0x6984 [] (λ t. subst (λ n. 1 ≤ n) long (some-to _ t)) (λ l. to-some _ (subst (λ n. 1 ≤ n) (sym long) l))
       refl e3 (λ ch e4.
-      compares c area random (framed cmd) (step c area cmd random) (r .card-sound) 0 (omega arith) expected
+      compares c area random cmd (step c area cmd random) (r .card-sound) 0 (omega arith) expected
       (subst (λ (d : List ℕ). Settled c area (comparedAt 0 c (same d (framed cmd .given))) (step c area cmd random)) expected-is (shown-key (e4 .is)))))))
 
 pub authenticate-answers : AuthenticateAnswers
-unfolding find rows
-authenticate-answers = by-name 0x00 0x82 answers.Authenticate Authenticate (inl refl) refl refl authenticating
+unfolding find rows kept rule
+authenticate-answers = by-name 0x00 0x82 answers.Authenticate Authenticate (inl refl) refl refl (λ c k. refl) authenticating
 
 -- ---- GET CHALLENGE
 -- 4, 8 or 16 bytes
@@ -406,7 +406,7 @@ module _ (c : Card) (area cmd random : List ℕ) (r : Runs c area cmd random Get
       quiet c area 0x9000 (c .session .current) (take (framed cmd .le) random) 0 0 (take (framed cmd .le) random) (step c area cmd random) (serves r e)
       (append-nil (take (framed cmd .le) random))
 
-  challenging : answers.GetChallenge c area random (framed cmd) (step c area cmd random)
+  challenging : answers.GetChallenge c area random cmd (step c area cmd random)
   unfolding getChallengeChecks
   challenging =
       check r (eqb (p (framed cmd)) 0x0000) 0x6A86 _ (eqb-true _ _) (eq-eqb _ _) refl (record { is = challenge-word }) (λ z e1.
@@ -415,5 +415,5 @@ module _ (c : Card) (area cmd random : List ℕ) (r : Runs c area cmd random Get
       (λ q. join (eq-eqb _ _ (q .0)) (to-le (framed cmd .le) (q .1))) refl e1 (λ q e2. said (e2 .is)))
 
 pub get-challenge-answers : GetChallengeAnswers
-unfolding find rows
-get-challenge-answers = by-name 0x00 0x84 answers.GetChallenge GetChallenge (inl refl) refl refl challenging
+unfolding find rows kept rule
+get-challenge-answers = by-name 0x00 0x84 answers.GetChallenge GetChallenge (inl refl) refl refl (λ c k. refl) challenging

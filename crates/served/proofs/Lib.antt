@@ -1,18 +1,20 @@
 -- What should be served is served.
 pub mod View
 pub mod Steps
+pub mod Credentials
+pub mod Codes
 pub mod Frames
 pub mod Writes
-pub mod Append
-pub mod Pushed
-pub mod Records
 pub mod Binary
+pub mod Append
+pub mod Records
 pub mod Select
-pub mod Credentials
+pub mod Create
 pub mod Calls
 pub mod Unknown
 pub mod Response
-pub mod Create
 pub mod Sound
 pub mod One
 pub mod Hidden
+pub mod Pushed
+pub mod Transport

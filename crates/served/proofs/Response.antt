@@ -125,15 +125,16 @@ module _ (c : Card) (area cmd random : List ℕ) (h : sound c area ≡ true) (la
         of-class-00 = λ e q. not-listed (g .ins) (sent .instruction-is) q;
         get-response = λ e i m. o m;
         of-class-80 = λ e i. omega (arith, e, sent .class-is);
+        of-class-04 = λ e i. omega (arith, e, sent .class-is);
       })
 
   -- the rule's list and the statement's chain
   abbrev Chain : Stepped → Type 0
   Chain s =
-      answers.keeping c area random (framed cmd) s (answers.p c area random (framed cmd) s ≡ 0x0000) 0x6A86
-      (answers.keeping c area random (framed cmd) s (framed cmd .case ≡ 2) 0x6700
-      (answers.keeping c area random (framed cmd) s (1 ≤ length (waiting c)) 0x6985
-      (answers.keeping c area random (framed cmd) s ((framed cmd .le ≡ 256) ⊎ (framed cmd .le ≤ length (waiting c))) (0x6C00 + length (waiting c))
+      answers.keeping c area random cmd s (answers.p c area random cmd s ≡ 0x0000) 0x6A86
+      (answers.keeping c area random cmd s (framed cmd .case ≡ 2) 0x6700
+      (answers.keeping c area random cmd s (1 ≤ length (waiting c)) 0x6985
+      (answers.keeping c area random cmd s ((framed cmd .le ≡ 256) ⊎ (framed cmd .le ≤ length (waiting c))) (0x6C00 + length (waiting c))
       (Fetched c area (min (framed cmd .le) (length (waiting c))) s))))
 
   in-mode-1 : mode c ≡ 1 → Chain (step c area cmd random)

@@ -19,7 +19,7 @@ use Rattle.rules.specs.Frame.{Command, framed, p, lc}
 use Rattle.rules.specs.Effect.{Deed, turns, enters}
 use Rattle.rules.specs.Select.{root, fidGiven, selected, entered, selectChecks, selectDeed}
 use Rattle.rules.specs.List.{find, rows, rule}
-use Rattle.rules.specs.Step.{did, checks, effectOf, Stepped, step}
+use Rattle.rules.specs.Step.{did, checks, effectOf, kept, Stepped, step}
 use Rattle.rules.proofs.Good.{Good, sound-good}
 use Rattle.demands.proofs.Named.{the-fid, found-fid, the-folder, found-folder}
 use Rattle.served.specs.Left.{LeftIn, Left}
@@ -67,7 +67,7 @@ module _ (c : Card) (area cmd random : List ℕ) (r : Runs c area cmd random Sel
     entered-as n q = quiet-in c area 0x9000 n 0 [] 0 0 [] s (subst (λ (x : Deed). Settled c area (did c x) s) q done) refl
 
   module _ (e : Rest (word Select c area (framed cmd)) (unless (not (isZero (selected c (framed cmd))) || (not (isZero (entered c (framed cmd))) || eqb (fidGiven (framed cmd)) root)) 0x6A82 ∷ [])) where
-    selects : Selects c area random (framed cmd) (step c area cmd random)
+    selects : Selects c area random cmd (step c area cmd random)
     selects = record {
       file = λ n h.
           let there : selected c k ≡ n = the-fid c g (c .session .folder) (fidGiven k) n (h .within) (h .fid-is) in
@@ -87,7 +87,7 @@ module _ (c : Card) (area cmd random : List ℕ) (r : Runs c area cmd random Sel
           refuses r 0x6A82 (λ y. omega (arith, y)) (e .is ∙ rw (nothing, no-folder c g (fidGiven k) u, ne-eqb (fidGiven k) root z));
     }
 
-  selecting : answers.Select c area random (framed cmd) (step c area cmd random)
+  selecting : answers.Select c area random cmd (step c area cmd random)
   unfolding selectChecks
   selecting =
       check r (eqb (p k) 0x0000) 0x6A86 _ (eqb-true _ _) (eq-eqb _ _) refl (record { is = word-is }) (λ z e1.
@@ -96,5 +96,5 @@ module _ (c : Card) (area cmd random : List ℕ) (r : Runs c area cmd random Sel
       refl e1 (λ q e2. selects e2))
 
 pub select-answers : SelectAnswers
-unfolding find rows
-select-answers = by-name 0x00 0xA4 answers.Select Select (inl refl) refl refl selecting
+unfolding find rows kept rule
+select-answers = by-name 0x00 0xA4 answers.Select Select (inl refl) refl refl (λ c k. refl) selecting

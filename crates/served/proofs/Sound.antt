@@ -35,7 +35,7 @@ use Rattle.rules.specs.declared.Session.{Session}
 use Rattle.rules.specs.declared.Card.{Card}
 use Rattle.rules.specs.Words.{allOf, byte}
 use Rattle.rules.specs.State.{marked, valueOf}
-use Rattle.rules.specs.Sound.{goodPin, goodValue, soundValue, goodChallenge, soundChallenge, soundResponse, sound}
+use Rattle.rules.specs.Sound.{goodPin, isKey, goodValue, soundValue, goodChallenge, soundChallenge, soundResponse, sound}
 use Rattle.rules.proofs.Checks.{one-of, either}
 use Rattle.rules.proofs.Targets.{some-lies, lies-there}
 use Rattle.rules.proofs.Good.{said-short, Credited, responded, sound-good, sound-parted, sound-both}
@@ -69,6 +69,12 @@ to-rest : (n : ℕ) (l : List ℕ) → ((i : ℕ) → n ≤ i → byte l i ≡ 0
 to-rest n l h = zero-all (drop n l) (λ i. getD-drop n l i 0 ∙ h (n + i) (omega arith))
 
 -- ---- a credential
+is-key : (n : ℕ) → (n ≡ 0) ⊎ (n ≡ 3) → isKey n ≡ true
+is-key n = ⊎-elim (λ z. rw z) (λ z. either (eqb n 0) (eq-eqb n 3 z))
+
+no-key : (n : ℕ) → ((n ≡ 0) ⊎ (n ≡ 3) → ⊥) → isKey n ≡ false
+no-key n o = rw (ne-eqb n 0 (λ z. o (inl z)), ne-eqb n 3 (λ z. o (inr z)))
+
 module _ (n : ℕ) (x : Credential) (right : ℕ) where
   abbrev value-list : List Bool
   value-list = eqb (length (x .value)) 16 ∷ leb (x .len) 16 ∷ goodValue n (valueOf x) ∷ allOf isZero (drop (x .len) (x .value)) ∷ []
@@ -82,9 +88,9 @@ module _ (n : ℕ) (x : Credential) (right : ℕ) where
       let q = both (leb 1 (x .tries .limit)) (leb (x .tries .limit) 128) (g .tries .limit) in
       record {
         value = record { as-many = long; most = few; rest = rest-to (x .len) (x .value) (e .1 .1 .1) };
-        key = λ z. let k : eqb (length (take (x .len) (x .value))) 16 ≡ true = rw (eq-eqb n 0 z) at (e .1 .1 .0) in
+        key = λ z. let k : eqb (length (take (x .len) (x .value))) 16 ≡ true = rw (is-key n z) at (e .1 .1 .0) in
             sym (length-take-le (x .len) (x .value) (omega (arith, few, long))) ∙ eqb-true _ _ k;
-        pin = λ o. pin-to (take (x .len) (x .value)) (rw (ne-eqb n 0 o) at (e .1 .1 .0));
+        pin = λ o. pin-to (take (x .len) (x .value)) (rw (no-key n o) at (e .1 .1 .0));
         limit = (leb-true _ _ (q .0), leb-true _ _ (q .1));
         left = g .tries .few;
         right-kept = g .low;
@@ -107,11 +113,14 @@ module _ (n : ℕ) (x : Credential) (right : ℕ) where
     low = s .right-kept;
   }
     where
-      good : cond (eqb n 0) (eqb (length (take (x .len) (x .value))) 16) (goodPin (take (x .len) (x .value))) ≡ true
+      of-key : (n ≡ 0) ⊎ (n ≡ 3) → cond (isKey n) (eqb (length (take (x .len) (x .value))) 16) (goodPin (take (x .len) (x .value))) ≡ true
+      of-key z = rw (is-key n z) (eq-eqb (length (take (x .len) (x .value))) 16 (length-take-le (x .len) (x .value) (omega (arith, s .value .most, s .value .as-many)) ∙ s .key z))
+
+      good : cond (isKey n) (eqb (length (take (x .len) (x .value))) 16) (goodPin (take (x .len) (x .value))) ≡ true
       good =
-          by-cases (ℕ-discrete n 0)
-          (λ z. rw (eq-eqb n 0 z) (eq-eqb (length (take (x .len) (x .value))) 16 (length-take-le (x .len) (x .value) (omega (arith, s .value .most, s .value .as-many)) ∙ s .key z)))
-          (λ o. rw (ne-eqb n 0 o) (to-pin (take (x .len) (x .value)) (s .pin o)))
+          by-cases (ℕ-discrete n 0) (λ z. of-key (inl z))
+          (λ o. by-cases (ℕ-discrete n 3) (λ z. of-key (inr z))
+          (λ m. let neither : (n ≡ 0) ⊎ (n ≡ 3) → ⊥ = ⊎-elim o m in rw (no-key n neither) (to-pin (take (x .len) (x .value)) (s .pin neither))))
 
 -- ---- a file
 module _ (f : File) where
@@ -459,7 +468,7 @@ sound-both-ways c area = (
       let r = responded (c .response) (g .response) in
       let len = said-to (c .session .len) (e .1 .0) in
       record {
-        three = g .all-there;
+        four = g .all-there;
         three-rights = g .all-kept;
         credentials = λ n l. credential-to n (credentialNo c n) (rightNo c n) (g .credited n l);
         files = files-to c area h;
@@ -477,7 +486,7 @@ sound-both-ways c area = (
   λ s.
       sound-both c area
       (record {
-        all-there = s .three;
+        all-there = s .four;
         all-kept = s .three-rights;
         credited = λ n l. to-credential n (credentialNo c n) (rightNo c n) (s .credentials n l);
         directory = is-filed (c .directory) (filed-back c area (s .files) (s .folders));

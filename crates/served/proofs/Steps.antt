@@ -2,8 +2,8 @@
 use Prim.Native.Nat.{ℕ, _≤_}
 use mathlib.Core.Bool.{Bool, true, false, not}
 use mathlib.Core.List.{List, [], _∷_, _++_}
-use mathlib.Core.Logic.{_⊎_, ⊎-elim}
-use mathlib.Core.Path.{_≡_, refl, ap, _∙_, subst}
+use mathlib.Core.Logic.{_⊎_, inl, inr, ⊎-elim}
+use mathlib.Core.Path.{_≡_, refl, sym, ap, _∙_, subst}
 use native.Mathlib.Omega.{arith}
 use lib.Dec.{eqb}
 use lib.ListN.{length, take}
@@ -23,18 +23,19 @@ use Rattle.rules.specs.Record.{recordFound}
 use Rattle.rules.specs.Binary.{target, fileSw}
 use Rattle.rules.specs.List.{listed, find, rows, isGetResponse}
 use Rattle.rules.specs.Response.{waitSw, fetches}
-use Rattle.rules.specs.Step.{checks, effectOf, swOf, outcome, Stepped, settled, atOnce, delivered, step}
+use Rattle.rules.specs.Step.{checks, effectOf, kept, swOf, outcome, Stepped, settled, atOnce, delivered, step}
 use Rattle.rules.proofs.Checks.{one-of}
 use Rattle.rules.proofs.Good.{sound-good, responded, waiting-set}
 use Rattle.rules.proofs.Equal.{filled-behind}
 use Rattle.rules.proofs.Targets.{not-zero}
 use Rattle.demands.specs.Soundness.{Bytes}
+use Rattle.demands.specs.Framing.{Sent}
 use Rattle.demands.specs.Held.{Named}
 use Rattle.demands.proofs.Delivered.{at-once-response}
-use Rattle.demands.proofs.Soundness.{at-once-few}
+use Rattle.demands.proofs.Soundness.{at-once-few, step-sound}
 use Rattle.demands.proofs.Named.{named-target, target-named}
-use Rattle.served.specs.Left.{Says, Challenge, LeftIn, Left, Refused}
-use Rattle.served.specs.Answers.{ask, askFile, Answers}
+use Rattle.served.specs.Left.{Ask, Says, Challenge, LeftIn, Left, Refused}
+use Rattle.served.specs.Answers.{askFile, Answers, EitherAnswers}
 
 -- checks in a row
 pub first-on : (more : List ℕ) → first (0x9000 ∷ more) ≡ first more
@@ -145,12 +146,57 @@ not-fetched c k i named other = rw named (third-fails (marked (mode c)) (not (is
 abbrev pub word : Ins → Card → List ℕ → Command → ℕ
 word i c area k = first (checks i c (recordFound c area k) k)
 
+abbrev pub effectIn : Ins → Card → List ℕ → Command → List ℕ → Effect
+effectIn i c area k random = effectOf i c (recordFound c area k) k random
+
 -- these checks are left
 pub record Rest (w : ℕ) (l : List ℕ) : Type 0 where
   pub is : w ≡ first l
 
+-- a check that says whether a condition holds; R is what a refusal is
+pub checks-by : {R : ℕ → Type 0} {A next : Type 0} {w : ℕ} (t : Bool) (sw : ℕ) (more : List ℕ) → ((n : ℕ) → (n ≡ 0x9000 → ⊥) → w ≡ n → R n) → (t ≡ true → A) → (A → t ≡ true)
+    → eqb sw 0x9000 ≡ false → Rest w (unless t sw ∷ more) → (A → Rest w more → next) → Ask R A sw next
+checks-by true sw more r to back o e f = (λ n. absurd (n (to refl)), λ q. f q (record { is = e .is ∙ first-on more }))
+checks-by false sw more r to back o e f = (λ n. r sw (eqb-false sw 0x9000 o) (e .is ∙ first-stops sw more (eqb-false sw 0x9000 o)), λ q. absurd (clash false (back q) refl))
+
+-- a word w on a sound card: another than 9000 is a refusal, and 9000 has the effect e
+pub record Checked (c : Card) (area : List ℕ) (w : ℕ) (e : Effect) (s : Stepped) : Type 0 where
+  pub card-sound : sound c area ≡ true
+  pub area-long : length area ≡ 4096
+  pub after-sound : sound (s .card) (s .area) ≡ true
+  pub refused : (sw : ℕ) → (sw ≡ 0x9000 → ⊥) → w ≡ sw → Settled c area (answers sw c) s
+  pub served : w ≡ 0x9000 → Settled c area e s
+
+module _ {c : Card} {area : List ℕ} {w : ℕ} {e : Effect} {s : Stepped} (r : Checked c area w e s) where
+  pub refuses : (sw : ℕ) → (sw ≡ 0x9000 → ⊥) → w ≡ sw → Refused c area sw s
+  unfolding part
+  refuses sw o q = quiet c area sw (c .session .current) [] 0 0 [] s (r .refused sw o q) refl
+
+  pub serves : w ≡ 0x9000 → Settled c area e s
+  serves = r .served
+
+  pub check : {A next : Type 0} (t : Bool) (sw : ℕ) (more : List ℕ) → (t ≡ true → A) → (A → t ≡ true) → eqb sw 0x9000 ≡ false → Rest w (unless t sw ∷ more)
+      → (A → Rest w more → next) → Ask (λ v. Refused c area v s) A sw next
+  check t sw more to back o q f = checks-by t sw more refuses to back o q f
+
+  -- a file that the command names
+  pub check-file : (random cmd : List ℕ) (sfi : ℕ) (next : ℕ → Type 0) (more : List ℕ) → Rest w (fileSw (target c sfi) ∷ more)
+      → (Named c sfi (target c sfi) → Rest w more → next (target c sfi)) → askFile c area random cmd s sfi next
+  check-file random cmd sfi next more q f = go (isZero (target c sfi)) refl
+    where
+      go : (t : Bool) → isZero (target c sfi) ≡ t → askFile c area random cmd s sfi next
+      go true z = (
+        λ none. refuses 0x6A82 (λ y. omega (arith, y)) (q .is ∙ rw z (first-stops 0x6A82 more (λ y. omega (arith, y)))),
+        λ n v. absurd (omega (arith, eqb-true (target c sfi) 0 z, named-target c (sound-good c area (r .card-sound)) sfi n v, v .there .first)),
+      )
+      go false z =
+          let there = target-named c (sound-good c area (r .card-sound)) sfi (not-zero (target c sfi) z) in (
+            λ none. absurd (none (target c sfi) there),
+            λ n v. subst next (named-target c (sound-good c area (r .card-sound)) sfi n v) (f there (record { is = q .is ∙ rw z (first-on more) })),
+          )
+
 -- a command on a sound card, by its name
-pub record Runs (c : Card) (area cmd random : List ℕ) (i : Ins) : Type 0 where
+pub record Sends (c : Card) (area cmd random : List ℕ) (i : Ins) : Type 0 where
   pub card-sound : sound c area ≡ true
   pub area-long : length area ≡ 4096
   pub random-long : length random ≡ 16
@@ -160,20 +206,42 @@ pub record Runs (c : Card) (area cmd random : List ℕ) (i : Ins) : Type 0 where
   pub named : listed (framed cmd) ≡ i
   pub other : isGetResponse i ≡ false
 
-module _ {c : Card} {area cmd random : List ℕ} {i : Ins} (r : Runs c area cmd random i) where
+-- an effect on one card is one on another that has its mode
+pub settled-on : (c x : Card) (area : List ℕ) (e : Effect) (s : Stepped) → x .response ≡ c .response → Settled c area e s → Settled x area e s
+settled-on c x area e s m q =
+    let same : x .response .mode ≡ c .response .mode = ap (λ (r : Response). r .mode) m in
+    let said = q .says in
+    record {
+      says = record {
+        mode-stays = said .mode-stays ∙ sym same;
+        at-once = λ z. said .at-once (sym same ∙ z);
+        later = λ z. said .later (sym same ∙ z);
+        no-data = λ z. said .no-data (sym same ∙ z);
+        some-data = λ z. said .some-data (sym same ∙ z);
+      };
+      credentials-are = q .credentials-are;
+      rights-are = q .rights-are;
+      directory-is = q .directory-is;
+      folder-is = q .folder-is;
+      current-is = q .current-is;
+      challenge-is = q .challenge-is;
+      area-is = q .area-is;
+    }
+
+module _ {c : Card} {area cmd random : List ℕ} {i : Ins} (r : Sends c area cmd random i) where
   all-checks : swOf i c (recordFound c area (framed cmd)) (framed cmd) ≡ word i c area (framed cmd)
   unfolding orElse
   all-checks = rw (ne-eqb (framed cmd .case) 0 (r .good-frame), r .good-class)
 
   refused-is : (sw : ℕ) → (sw ≡ 0x9000 → ⊥) → word i c area (framed cmd) ≡ sw
-      → outcome (listed (framed cmd)) c (recordFound c area (framed cmd)) (framed cmd) random ≡ answers sw c
+      → outcome (listed (framed cmd)) c (recordFound c area (framed cmd)) (framed cmd) random ≡ answers sw (kept i c (framed cmd))
   unfolding outcome
   refused-is sw o e =
       let q : swOf i c (recordFound c area (framed cmd)) (framed cmd) ≡ sw = all-checks ∙ e in
       rw (r .named, q, ne-eqb sw 0x9000 o)
 
   served-is : word i c area (framed cmd) ≡ 0x9000
-      → outcome (listed (framed cmd)) c (recordFound c area (framed cmd)) (framed cmd) random ≡ effectOf i c (recordFound c area (framed cmd)) (framed cmd) random
+      → outcome (listed (framed cmd)) c (recordFound c area (framed cmd)) (framed cmd) random ≡ effectIn i c area (framed cmd) random
   unfolding outcome
   served-is e =
       let q : swOf i c (recordFound c area (framed cmd)) (framed cmd) ≡ 0x9000 = all-checks ∙ e in
@@ -182,49 +250,47 @@ module _ {c : Card} {area cmd random : List ℕ} {i : Ins} (r : Runs c area cmd 
   leaves : (x : Effect) → outcome (listed (framed cmd)) c (recordFound c area (framed cmd)) (framed cmd) random ≡ x → Settled c area x (step c area cmd random)
   leaves x e = subst (λ (y : Effect). Settled c area y (step c area cmd random)) e (settles c area cmd random (r .card-sound) (r .random-long) (r .bytes) (not-fetched c (framed cmd) i (r .named) (r .other)))
 
-  pub refuses : (sw : ℕ) → (sw ≡ 0x9000 → ⊥) → word i c area (framed cmd) ≡ sw → Refused c area sw (step c area cmd random)
-  unfolding part
-  refuses sw o e = quiet c area sw (c .session .current) [] 0 0 [] (step c area cmd random) (leaves (answers sw c) (refused-is sw o e)) refl
+  -- x is the card that a refusal leaves
+  pub checked : (x : Card) (w : ℕ) (e : Effect) → kept i c (framed cmd) ≡ x → x .response ≡ c .response → sound x area ≡ true → word i c area (framed cmd) ≡ w
+      → effectIn i c area (framed cmd) random ≡ e → Checked x area w e (step c area cmd random)
+  checked x w e k m h p q = record {
+    card-sound = h;
+    area-long = r .area-long;
+    after-sound = step-sound c area cmd random (r .card-sound) (r .area-long) (r .random-long);
+    refused = λ sw o z. settled-on c x area (answers sw x) (step c area cmd random) m (leaves (answers sw x) (refused-is sw o (p ∙ z) ∙ ap (answers sw) k));
+    served = λ z. settled-on c x area e (step c area cmd random) m (leaves e (served-is (p ∙ z) ∙ q));
+  }
 
-  pub serves : word i c area (framed cmd) ≡ 0x9000 → Settled c area (effectOf i c (recordFound c area (framed cmd)) (framed cmd) random) (step c area cmd random)
-  serves e = leaves (effectOf i c (recordFound c area (framed cmd)) (framed cmd) random) (served-is e)
-
-  abbrev W : ℕ
-  W = word i c area (framed cmd)
-
-  -- a check that says whether a condition holds
-  pub check : {A next : Type 0} (t : Bool) (sw : ℕ) (more : List ℕ) → (t ≡ true → A) → (A → t ≡ true) → eqb sw 0x9000 ≡ false → Rest W (unless t sw ∷ more)
-      → (A → Rest W more → next) → ask c area random (framed cmd) (step c area cmd random) A sw next
-  check true sw more to back o e f = (λ n. absurd (n (to refl)), λ q. f q (record { is = e .is ∙ first-on more }))
-  check false sw more to back o e f = (λ n. refuses sw (eqb-false sw 0x9000 o) (e .is ∙ first-stops sw more (eqb-false sw 0x9000 o)), λ q. absurd (clash false (back q) refl))
-
-  -- a file that the command names
-  pub check-file : (sfi : ℕ) (next : ℕ → Type 0) (more : List ℕ) → Rest W (fileSw (target c sfi) ∷ more)
-      → (Named c sfi (target c sfi) → Rest W more → next (target c sfi)) → askFile c area random (framed cmd) (step c area cmd random) sfi next
-  check-file sfi next more e f = go (isZero (target c sfi)) refl
-    where
-      go : (t : Bool) → isZero (target c sfi) ≡ t → askFile c area random (framed cmd) (step c area cmd random) sfi next
-      go true z = (
-        λ none. refuses 0x6A82 (λ y. omega (arith, y)) (e .is ∙ rw z (first-stops 0x6A82 more (λ y. omega (arith, y)))),
-        λ n q. absurd (omega (arith, eqb-true (target c sfi) 0 z, named-target c (sound-good c area (r .card-sound)) sfi n q, q .there .first)),
-      )
-      go false z =
-          let there = target-named c (sound-good c area (r .card-sound)) sfi (not-zero (target c sfi) z) in (
-            λ none. absurd (none (target c sfi) there),
-            λ n q. subst next (named-target c (sound-good c area (r .card-sound)) sfi n q) (f there (record { is = e .is ∙ rw z (first-on more) })),
-          )
+-- a command that has no code
+abbrev pub Runs : Card → List ℕ → List ℕ → List ℕ → Ins → Type 0
+Runs c area cmd random i = Checked c area (word i c area (framed cmd)) (effectIn i c area (framed cmd) random) (step c area cmd random)
 
 -- what holds of every run of a command holds of every command with its two bytes
-pub by-name : (cla ins : ℕ) (Paper : Card → List ℕ → List ℕ → Command → Stepped → Type 0) (i : Ins) → (cla ≡ 0x00) ⊎ (cla ≡ 0x80) → find rows cla ins ≡ i → isGetResponse i ≡ false
-    → ((c : Card) (area cmd random : List ℕ) → Runs c area cmd random i → Paper c area random (framed cmd) (step c area cmd random)) → Answers cla ins Paper
+pub sends : (cla ins : ℕ) (i : Ins) → (cla ≡ 0x00) ⊎ ((cla ≡ 0x80) ⊎ (cla ≡ 0x04)) → find rows cla ins ≡ i → isGetResponse i ≡ false → (c : Card) (area cmd random : List ℕ)
+    → sound c area ≡ true → length area ≡ 4096 → length random ≡ 16 → Bytes cmd → Sent cla ins cmd → Sends c area cmd random i
 unfolding listed
-by-name cla ins Paper i class named other f c area cmd random h la l b sent = f c area cmd random (record {
+sends cla ins i class named other c area cmd random h la l b sent = record {
   card-sound = h;
   area-long = la;
   random-long = l;
   bytes = b;
   good-frame = sent .good-frame;
-  good-class = rw (sent .class-is) (⊎-elim (λ e. rw e) (λ e. rw e) class);
+  good-class = rw (sent .class-is) (⊎-elim (λ e. rw e) (⊎-elim (λ e. rw e) (λ e. rw e)) class);
   named = rw (sent .class-is, sent .instruction-is) named;
   other = other;
-})
+}
+
+pub by-name : (cla ins : ℕ) (Paper : Card → List ℕ → List ℕ → List ℕ → Stepped → Type 0) (i : Ins) → (cla ≡ 0x00) ⊎ ((cla ≡ 0x80) ⊎ (cla ≡ 0x04)) → find rows cla ins ≡ i
+    → isGetResponse i ≡ false → ((c : Card) (k : Command) → kept i c k ≡ c)
+    → ((c : Card) (area cmd random : List ℕ) → Runs c area cmd random i → Paper c area random cmd (step c area cmd random)) → Answers cla ins Paper
+by-name cla ins Paper i class named other keeps f c area cmd random h la l b sent =
+    f c area cmd random
+    (checked (sends cla ins i class named other c area cmd random h la l b sent) c _ _ (keeps c (framed cmd)) refl h refl refl)
+
+-- and of a command that may have a code, with its two classes
+pub by-either : (ins : ℕ) (Paper : Card → List ℕ → List ℕ → List ℕ → Stepped → Type 0) (i : Ins) → find rows 0x00 ins ≡ i → find rows 0x04 ins ≡ i → isGetResponse i ≡ false
+    → ((c : Card) (area cmd random : List ℕ) → Sends c area cmd random i → Paper c area random cmd (step c area cmd random)) → EitherAnswers ins Paper
+by-either ins Paper i plain coded other f = (
+  λ c area cmd random h la l b sent. f c area cmd random (sends 0x00 ins i (inl refl) plain other c area cmd random h la l b sent),
+  λ c area cmd random h la l b sent. f c area cmd random (sends 0x04 ins i (inr (inr refl)) coded other c area cmd random h la l b sent),
+)

@@ -1,4 +1,4 @@
--- Each command answers what the paper says: document 01's "Framing" and "The twelve commands", with R-1, R-2 and R-5 to R-7. A command is its conditions in the
+-- Each command answers what the paper says: document 01's "Framing" and "The twelve commands", with R-1, R-2, R-5 to R-7 and R-9. A command is its conditions in the
 -- paper's order, each with the word of its refusal (ask), and where all of them hold what comes of it. The words are the statement's own, over the state's fields
 -- (Held): no check, effect or list view of the rules is cited.
 use Prim.Native.Nat.{ℕ, _+_, _-_, _*_, _/_, _%_, _≤_, _<_, min}
@@ -15,10 +15,10 @@ use Rattle.rules.specs.Sound.{sound}
 use Rattle.rules.specs.Frame.{Command, framed}
 use Rattle.rules.specs.Step.{Stepped, step}
 use Rattle.demands.specs.Soundness.{Bytes}
-use Rattle.demands.specs.Held.{fileNo, IsFile, startNo, bytesNo, IsFolder, tagNo, Within, Named, bytesUsed, recordsNo, valueNo, leftNo, limitNo, rightNo, Opens, MayCreate, labelOf, labelNo, byP1, binarySfi, recordSfi, heldOn}
-use Rattle.demands.specs.Ledger.{Label, labelGiven, tagGiven, sizeOf, sfiOf, fidOf, fidOfTag}
+use Rattle.demands.specs.Held.{fileNo, IsFile, startNo, bytesNo, IsFolder, tagNo, Within, Named, bytesUsed, recordsNo, valueNo, leftNo, limitNo, rightNo, Opens, AsksCode, MayCreate, labelOf, labelNo, byP1, binarySfi, recordSfi, heldOn}
+use Rattle.demands.specs.Ledger.{Label, labelGiven, tagGiven, sizeOf, sfiOf, fidOf, fidOfTag, lcSent, codeSent, codeOf}
 use Rattle.demands.specs.Framing.{Sent}
-use Rattle.served.specs.Left.{mode, waiting, Ask, Says, Challenge, LeftIn, Left, Refused, Written, OneRun, Credited, Kept, Fetched, Stores}
+use Rattle.served.specs.Left.{mode, waiting, challenge, withKeyTries, Ask, Says, Challenge, LeftIn, Left, Refused, Written, OneRun, Credited, Kept, Fetched, Stores}
 
 -- type 2A, 2E or 2C has records, and 2E and 2C take new ones
 abbrev pub HasRecords : File → Type 0
@@ -34,12 +34,16 @@ GoodSize x =
     ⊎ (((x .kind ≡ 0x2C) × (2 ≤ sizeOf x) × (sizeOf x ≤ 4096))
     ⊎ (((x .kind ≡ 0x2A) ⊎ (x .kind ≡ 0x2E)) × (2 ≤ x .size1) × (x .size1 ≤ 254) × (1 ≤ x .size2) × (x .size2 ≤ 178)))
 
--- a rights byte: 0F, or no bit but 8, 7, 2 and 1, and not bit 2 alone
+-- a directory's rights byte: 0F, or no bit but 8, 7, 2 and 1, and not bit 2 alone
 abbrev pub GoodRight : ℕ → Type 0
 GoodRight b = (b ≡ 0x0F) ⊎ ((b / 4 % 16 ≡ 0) × (b ≡ 0x02 → ⊥))
 
+-- a file's may have bit 3 besides (R-9); bits 2 and 3 alone leave nothing to choose from
+abbrev pub GoodFileRight : ℕ → Type 0
+GoodFileRight b = (b ≡ 0x0F) ⊎ ((b / 8 % 8 ≡ 0) × (b ≡ 0x02 → ⊥) × (b ≡ 0x06 → ⊥))
+
 abbrev pub GoodContents : Label → Type 0
-GoodContents x = GoodSize x × (GoodRight (x .read) × GoodRight (x .write))
+GoodContents x = GoodSize x × (GoodFileRight (x .read) × GoodFileRight (x .write))
 
 -- each byte is 30 to 39
 abbrev pub Digits : List ℕ → Type 0
@@ -79,8 +83,37 @@ pub record FolderGiven (given : List ℕ) : Type 0 where
   pub zeros : (byte given 1 ≡ 0) × ((byte given 2 ≡ 0) × (byte given 4 ≡ 0))
   pub right : GoodRight (byte given 3)
 
--- a card and its area, the random input, a command taken apart, and what the step makes of it
-module _ (c : Card) (area random : List ℕ) (k : Command) (s : Stepped) where
+-- ---- what the five that read, update and append ask of their bytes. CLA 04: with a code of four bytes behind the data, which Lc counts (R-9)
+abbrev pub WithCode : List ℕ → Type 0
+WithCode cmd = framed cmd .cla ≡ 0x04
+
+-- a read is case 2, with a code case 4 with Lc 04; an update or append is case 3, with a code Lc 05 or more
+pub record ReadCase (cmd : List ℕ) : Type 0 where
+  pub plain : (WithCode cmd → ⊥) → framed cmd .case ≡ 2
+  pub coded : WithCode cmd → (framed cmd .case ≡ 4) × (lcSent cmd ≡ 4)
+
+pub record WriteCase (cmd : List ℕ) : Type 0 where
+  pub case-is : framed cmd .case ≡ 3
+  pub coded : WithCode cmd → 5 ≤ lcSent cmd
+
+-- P of READ and UPDATE BINARY: P1 bit 8 clear, and P is the offset in the current file; or P1 from 81 to 9E, SFI in its low five bits, offset P2
+abbrev pub BinaryP : List ℕ → Type 0
+BinaryP cmd = (framed cmd .p1 < 0x80) ⊎ ((0x81 ≤ framed cmd .p1) × (framed cmd .p1 ≤ 0x9E))
+
+-- P2 of READ, UPDATE and APPEND RECORD: low bits; upper five SFI, not 31
+abbrev pub RecordP : ℕ → List ℕ → Type 0
+RecordP low cmd = (framed cmd .p2 % 8 ≡ low) × (recordSfi (framed cmd) ≡ 31 → ⊥)
+
+-- the code that was sent is the one that the transport key, credential 3, and the challenge give of the command's bytes (R-9)
+abbrev pub CodeAgrees : Card → List ℕ → Type 0
+CodeAgrees c cmd = codeOf (valueNo c 3) (challenge c) cmd ≡ codeSent cmd
+
+-- a card and its area, the random input, a command, and what the step makes of it
+module _ (c : Card) (area random cmd : List ℕ) (s : Stepped) where
+  -- the command taken apart
+  abbrev pub k : Command
+  k = framed cmd
+
   abbrev pub ask : Type 0 → ℕ → Type 0 → Type 0
   ask A sw next = Ask (λ w. Refused c area w s) A sw next
 
@@ -91,17 +124,19 @@ module _ (c : Card) (area random : List ℕ) (k : Command) (s : Stepped) where
   abbrev pub p : ℕ
   p = k .p1 * 256 + k .p2
 
+  -- how many bytes are given, without a code
   abbrev pub lc : ℕ
   lc = length (k .given)
 
-  -- ---- Framing: a good frame (6700), class 00 or 80 (6E00), class and instruction together in the list (6D00), where GET RESPONSE stands in mode 1 alone
+  -- ---- Framing: a good frame (6700), class 00, 80 or 04 (6E00), class and instruction together in the list (6D00), where GET RESPONSE stands in mode 1 alone
   pub record Unlisted : Type 0 where
     pub of-class-00 : k .cla ≡ 0x00 → OneOf (k .ins) (0xA4 ∷ 0xB0 ∷ 0xD6 ∷ 0xB2 ∷ 0xDC ∷ 0xE2 ∷ 0x20 ∷ 0x82 ∷ 0x24 ∷ 0x2C ∷ 0x84 ∷ []) → ⊥
     pub get-response : k .cla ≡ 0x00 → k .ins ≡ 0xC0 → mode c ≡ 1 → ⊥
     pub of-class-80 : k .cla ≡ 0x80 → k .ins ≡ 0xE0 → ⊥
+    pub of-class-04 : k .cla ≡ 0x04 → OneOf (k .ins) (0xB0 ∷ 0xD6 ∷ 0xB2 ∷ 0xDC ∷ 0xE2 ∷ []) → ⊥
 
   abbrev pub Unknown : Type 0
-  Unknown = ask (1 ≤ k .case) 0x6700 (ask ((k .cla ≡ 0x00) ⊎ (k .cla ≡ 0x80)) 0x6E00 (Unlisted → Refused c area 0x6D00 s))
+  Unknown = ask (1 ≤ k .case) 0x6700 (ask ((k .cla ≡ 0x00) ⊎ ((k .cla ≡ 0x80) ⊎ (k .cla ≡ 0x04))) 0x6E00 (Unlisted → Refused c area 0x6D00 s))
 
   -- ---- SELECT 00 A4
   abbrev pub fid : ℕ
@@ -118,29 +153,41 @@ module _ (c : Card) (area random : List ℕ) (k : Command) (s : Stepped) where
   abbrev pub Select : Type 0
   Select = ask (p ≡ 0x0000) 0x6A86 (ask ((k .case ≡ 3) × (lc ≡ 2)) 0x6700 Selects)
 
-  -- ---- READ BINARY 00 B0, UPDATE BINARY 00 D6
-  -- P1 bit 8 clear: P is the offset in the current file; P1 from 81 to 9E: SFI in its low five bits, offset P2
-  abbrev pub BinaryP : Type 0
-  BinaryP = (k .p1 < 0x80) ⊎ ((0x81 ≤ k .p1) × (k .p1 ≤ 0x9E))
+  -- ---- Codes on the bus (R-9). The five that read, update and append ask P (6A86), case and Lc (6700); with a code a try of the transport key left (6983), a
+  -- challenge (6984) and the code (6988), where a wrong one takes a try; and then their file. A right code restores all tries, and what comes next is of that
+  -- card, its refusals too
+  abbrev pub askContents : Type 0 → Type 0 → (Card → Type 0) → Type 0
+  askContents P Case next =
+      ask P 0x6A86
+      (ask Case 0x6700
+      (((WithCode cmd → ⊥) → next c)
+      × (WithCode cmd
+      → ask (1 ≤ leftNo c 3) 0x6983
+      (ask (1 ≤ c .session .len) 0x6984
+      (Ask (λ w. Refused (withKeyTries c (leftNo c 3 - 1)) area w s) (CodeAgrees c cmd) 0x6988
+      (next (withKeyTries c (limitNo c 3))))))))
 
+  -- what a file's right asks: the rights, and beside them a code (6982 for both)
+  abbrev pub askRight : ℕ → Type 0 → Type 0
+  askRight right next = ask (Opens (heldOn c) right) 0x6982 (ask (AsksCode right → WithCode cmd) 0x6982 next)
+
+  -- ---- READ BINARY B0, UPDATE BINARY D6
   abbrev pub offset : ℕ
   offset = cond (byP1 k) (k .p2) p
 
-  -- both ask the same but for the case, the right and the length
-  abbrev pub askBinary : ℕ → (File → ℕ) → (ℕ → Type 0) → Type 0
-  askBinary case right next =
-      ask BinaryP 0x6A86
-      (ask (k .case ≡ case) 0x6700
-      (askFile (binarySfi k) (λ n.
+  -- of its file both ask the same but for the right and the length
+  abbrev pub askBinary : (File → ℕ) → (ℕ → Type 0) → Type 0
+  askBinary right next =
+      askFile (binarySfi k) (λ n.
       ask (fileNo c n .kind ≡ 0x28) 0x6981
-      (ask (Opens (heldOn c) (right (fileNo c n))) 0x6982
+      (askRight (right (fileNo c n))
       (ask (offset < sizeOf (labelNo c n)) 0x6A84
-      (next n))))))
+      (next n))))
 
   -- Le bytes from the offset on; for Le 00, which stands for 256, as many as there are, up to 256
-  abbrev pub ReadBinary : Type 0
-  ReadBinary =
-      askBinary 2 (λ f. f .read) (λ n.
+  abbrev pub ReadsBinary : Type 0
+  ReadsBinary =
+      askBinary (λ f. f .read) (λ n.
       ask ((k .le ≡ 256) ⊎ (offset + k .le ≤ sizeOf (labelNo c n))) 0x6700
       (Left c area 0x9000 (take (k .le) (drop offset (bytesNo c area n))) n [] s))
 
@@ -150,33 +197,27 @@ module _ (c : Card) (area random : List ℕ) (k : Command) (s : Stepped) where
     pub file-is : fileNo (s .card) n ≡ fileNo c n
     pub bytes-are : Stores (bytesNo c area n) offset (k .given) (bytesNo (s .card) (s .area) n)
 
-  abbrev pub UpdateBinary : Type 0
-  UpdateBinary = askBinary 3 (λ f. f .write) (λ n. ask (offset + lc ≤ sizeOf (labelNo c n)) 0x6700 (BinaryUpdated n))
+  abbrev pub UpdatesBinary : Type 0
+  UpdatesBinary = askBinary (λ f. f .write) (λ n. ask (offset + lc ≤ sizeOf (labelNo c n)) 0x6700 (BinaryUpdated n))
 
-  -- ---- READ RECORD 00 B2, UPDATE RECORD 00 DC, APPEND RECORD 00 E2
-  -- P2 low bits; upper five SFI, not 31
-  abbrev pub RecordP : ℕ → Type 0
-  RecordP low = (k .p2 % 8 ≡ low) × (recordSfi k ≡ 31 → ⊥)
-
+  -- ---- READ RECORD B2, UPDATE RECORD DC, APPEND RECORD E2
   -- record number P1 of file n
   abbrev pub recordP1 : ℕ → List ℕ
   recordP1 n = getD (recordsNo c area n) (k .p1 - 1) []
 
-  -- the two ask the same but for the case and the right
-  abbrev pub askRecord : ℕ → (File → ℕ) → (ℕ → Type 0) → Type 0
-  askRecord case right next =
-      ask ((1 ≤ k .p1) × RecordP 4) 0x6A86
-      (ask (k .case ≡ case) 0x6700
-      (askFile (recordSfi k) (λ n.
+  -- the two ask the same but for the right and the length
+  abbrev pub askRecord : (File → ℕ) → (ℕ → Type 0) → Type 0
+  askRecord right next =
+      askFile (recordSfi k) (λ n.
       ask (HasRecords (fileNo c n)) 0x6981
-      (ask (Opens (heldOn c) (right (fileNo c n))) 0x6982
+      (askRight (right (fileNo c n))
       (ask (k .p1 ≤ length (recordsNo c area n)) 0x6A83
-      (next n))))))
+      (next n))))
 
   -- Le 00 or the record length, else 6C and that length; 00 is the whole record
-  abbrev pub ReadRecord : Type 0
-  ReadRecord =
-      askRecord 2 (λ f. f .read) (λ n.
+  abbrev pub ReadsRecord : Type 0
+  ReadsRecord =
+      askRecord (λ f. f .read) (λ n.
       ask ((k .le ≡ 256) ⊎ (k .le ≡ length (recordP1 n))) (0x6C00 + length (recordP1 n))
       (Left c area 0x9000 (recordP1 n) n [] s))
 
@@ -187,8 +228,8 @@ module _ (c : Card) (area random : List ℕ) (k : Command) (s : Stepped) where
     pub records-are : recordsNo (s .card) (s .area) n ≡ set (recordsNo c area n) (k .p1 - 1) (k .given)
     pub bytes-are : OneRun (bytesNo c area n) (recordP1 n) (k .given) (bytesNo (s .card) (s .area) n)
 
-  abbrev pub UpdateRecord : Type 0
-  UpdateRecord = askRecord 3 (λ f. f .write) (λ n. ask (lc ≡ length (recordP1 n)) 0x6700 (RecordUpdated n))
+  abbrev pub UpdatesRecord : Type 0
+  UpdatesRecord = askRecord (λ f. f .write) (λ n. ask (lc ≡ length (recordP1 n)) 0x6700 (RecordUpdated n))
 
   -- Lc the record length, in a 2C file at most 178; the record and its length byte fit in what is left of a 2C file
   abbrev pub AppendLc : File → Type 0
@@ -217,16 +258,14 @@ module _ (c : Card) (area random : List ℕ) (k : Command) (s : Stepped) where
     pub cyclic : fileNo c n .kind ≡ 0x2E → CyclicAppended n
     pub variable : fileNo c n .kind ≡ 0x2C → VariableAppended n
 
-  abbrev pub AppendRecord : Type 0
-  AppendRecord =
-      ask ((k .p1 ≡ 0) × RecordP 0) 0x6A86
-      (ask (k .case ≡ 3) 0x6700
-      (askFile (recordSfi k) (λ n.
+  abbrev pub AppendsRecord : Type 0
+  AppendsRecord =
+      askFile (recordSfi k) (λ n.
       ask (Grows (fileNo c n)) 0x6981
-      (ask (Opens (heldOn c) (fileNo c n .write)) 0x6982
+      (askRight (fileNo c n .write)
       (ask (AppendLc (fileNo c n)) 0x6700
       (ask (AppendRoom (fileNo c n)) 0x6A84
-      (RecordAppended n)))))))
+      (RecordAppended n)))))
 
   -- ---- VERIFY 00 20
   -- P2 00 is the admin PIN, credential 1, and 01 the user PIN, credential 2
@@ -258,7 +297,7 @@ module _ (c : Card) (area random : List ℕ) (k : Command) (s : Stepped) where
   -- ---- EXTERNAL AUTHENTICATE 00 82
   -- AES-128 under the device key, credential 0, of the challenge filled with 00 to 16 bytes
   abbrev pub cryptogram : List ℕ
-  cryptogram = aes128 (valueNo c 0) (take (c .session .len) (c .session .challenge) ++ replicate (16 - c .session .len) 0)
+  cryptogram = aes128 (valueNo c 0) (challenge c ++ replicate (16 - c .session .len) 0)
 
   abbrev pub Authenticate : Type 0
   Authenticate =
@@ -372,35 +411,56 @@ module _ (c : Card) (area random : List ℕ) (k : Command) (s : Stepped) where
       (keeping ((k .le ≡ 256) ⊎ (k .le ≤ length (waiting c))) (0x6C00 + length (waiting c))
       (Fetched c area (min (k .le) (length (waiting c))) s)))))
 
+-- ---- the five that read, update and append, whole: on the card as a code leaves it the file is asked
+module _ (c : Card) (area random cmd : List ℕ) (s : Stepped) where
+  abbrev pub ReadBinary : Type 0
+  ReadBinary = askContents c area random cmd s (BinaryP cmd) (ReadCase cmd) (λ x. ReadsBinary x area random cmd s)
+
+  abbrev pub UpdateBinary : Type 0
+  UpdateBinary = askContents c area random cmd s (BinaryP cmd) (WriteCase cmd) (λ x. UpdatesBinary x area random cmd s)
+
+  abbrev pub ReadRecord : Type 0
+  ReadRecord = askContents c area random cmd s ((1 ≤ framed cmd .p1) × RecordP 4 cmd) (ReadCase cmd) (λ x. ReadsRecord x area random cmd s)
+
+  abbrev pub UpdateRecord : Type 0
+  UpdateRecord = askContents c area random cmd s ((1 ≤ framed cmd .p1) × RecordP 4 cmd) (WriteCase cmd) (λ x. UpdatesRecord x area random cmd s)
+
+  abbrev pub AppendRecord : Type 0
+  AppendRecord = askContents c area random cmd s ((framed cmd .p1 ≡ 0) × RecordP 0 cmd) (WriteCase cmd) (λ x. AppendsRecord x area random cmd s)
+
 -- ---- the statements: of any sound card and area, any random input and any command with these class and instruction bytes, in a good frame
-abbrev pub Answers : ℕ → ℕ → (Card → List ℕ → List ℕ → Command → Stepped → Type 0) → Type 0
+abbrev pub Answers : ℕ → ℕ → (Card → List ℕ → List ℕ → List ℕ → Stepped → Type 0) → Type 0
 Answers cla ins Paper =
     (c : Card) (area cmd random : List ℕ) → sound c area ≡ true → length area ≡ 4096 → length random ≡ 16 → Bytes cmd → Sent cla ins cmd
-    → Paper c area random (framed cmd) (step c area cmd random)
+    → Paper c area random cmd (step c area cmd random)
+
+-- without a code and with one
+abbrev pub EitherAnswers : ℕ → (Card → List ℕ → List ℕ → List ℕ → Stepped → Type 0) → Type 0
+EitherAnswers ins Paper = Answers 0x00 ins Paper × Answers 0x04 ins Paper
 
 -- and of any command at all
 abbrev pub UnknownAnswers : Type 0
 UnknownAnswers =
     (c : Card) (area cmd random : List ℕ) → sound c area ≡ true → length area ≡ 4096 → length random ≡ 16 → Bytes cmd
-    → Unknown c area random (framed cmd) (step c area cmd random)
+    → Unknown c area random cmd (step c area cmd random)
 
 abbrev pub SelectAnswers : Type 0
 SelectAnswers = Answers 0x00 0xA4 Select
 
 abbrev pub ReadBinaryAnswers : Type 0
-ReadBinaryAnswers = Answers 0x00 0xB0 ReadBinary
+ReadBinaryAnswers = EitherAnswers 0xB0 ReadBinary
 
 abbrev pub UpdateBinaryAnswers : Type 0
-UpdateBinaryAnswers = Answers 0x00 0xD6 UpdateBinary
+UpdateBinaryAnswers = EitherAnswers 0xD6 UpdateBinary
 
 abbrev pub ReadRecordAnswers : Type 0
-ReadRecordAnswers = Answers 0x00 0xB2 ReadRecord
+ReadRecordAnswers = EitherAnswers 0xB2 ReadRecord
 
 abbrev pub UpdateRecordAnswers : Type 0
-UpdateRecordAnswers = Answers 0x00 0xDC UpdateRecord
+UpdateRecordAnswers = EitherAnswers 0xDC UpdateRecord
 
 abbrev pub AppendRecordAnswers : Type 0
-AppendRecordAnswers = Answers 0x00 0xE2 AppendRecord
+AppendRecordAnswers = EitherAnswers 0xE2 AppendRecord
 
 abbrev pub VerifyAnswers : Type 0
 VerifyAnswers = Answers 0x00 0x20 Verify

@@ -7,13 +7,14 @@ use mathlib.Core.Path.{_≡_}
 use lib.ListN.{length, drop, replicate}
 use Rattle.rules.specs.declared.Card.{Card}
 use Rattle.rules.specs.declared.Answer.{Answer}
-use Rattle.rules.specs.State.{Which, device, admin, user, numberOf, blankCard}
+use Rattle.rules.specs.State.{Which, device, admin, user, transport, numberOf, blankCard}
 use Rattle.rules.specs.Sound.{sound}
 use Rattle.rules.specs.Frame.{Command, framed}
 use Rattle.rules.specs.Binary.{rightSw}
 use Rattle.rules.specs.Step.{Stepped, step}
 use Rattle.rules.specs.Calls.{Done, Order, Issued, command, issue, reset}
 use Rattle.demands.specs.Ledger.{Event, ledger, heldIn}
+use Rattle.demands.specs.Framing.{EitherClass}
 use Rattle.demands.specs.Run.{Served, after}
 use Rattle.demands.specs.Held.{valueNo, leftNo, limitNo, rightNo, Opens, heldOn}
 use Rattle.served.specs.Left.{mode, waiting, Ask, Challenge}
@@ -52,14 +53,15 @@ pub record NotIssued (area : List ℕ) (x : Issued) (number : ℕ) : Type 0 wher
   pub count-is : x .answer .n ≡ 0
   pub area-is : x .area ≡ area
 
--- key of 16 bytes, PINs of 6 to 16 digits, limits of 1 to 128, mode 0 or 1
+-- keys of 16 bytes, PINs of 6 to 16 digits, limits of 1 to 128, mode 0 or 1
 abbrev pub GoodPin : List ℕ → Type 0
 GoodPin d = (6 ≤ length d) × (length d ≤ 16) × Digits d
 
 pub record GoodOrder (o : Order) : Type 0 where
-  pub key : length (o .given device .value) ≡ 16
+  pub device-key : length (o .given device .value) ≡ 16
   pub admin-pin : GoodPin (o .given admin .value)
   pub user-pin : GoodPin (o .given user .value)
+  pub transport-key : length (o .given transport .value) ≡ 16
   pub limits : (w : Which) → (1 ≤ o .given w .limit) × (o .given w .limit ≤ 128)
   pub mode : o .mode ≤ 1
 
@@ -111,7 +113,9 @@ EndsWell s = (s .sw ≡ 0x9000) ⊎ ((0x6100 ≤ s .sw) × (s .sw ≤ 0x61FF))
 
 -- ---- the current file: only SELECT, CREATE FILE, and a read, update or append changes it, one that ends 9000 or 61xx
 pub record Turns (k : Command) (s : Stepped) : Type 0 where
-  pub by-bytes : ((k .cla ≡ 0x00) × OneOf (k .ins) (0xA4 ∷ 0xB0 ∷ 0xD6 ∷ 0xB2 ∷ 0xDC ∷ 0xE2 ∷ [])) ⊎ ((k .cla ≡ 0x80) × (k .ins ≡ 0xE0))
+  pub by-bytes :
+      ((k .cla ≡ 0x00) × (k .ins ≡ 0xA4))
+      ⊎ ((EitherClass (k .cla) × OneOf (k .ins) (0xB0 ∷ 0xD6 ∷ 0xB2 ∷ 0xDC ∷ 0xE2 ∷ [])) ⊎ ((k .cla ≡ 0x80) × (k .ins ≡ 0xE0)))
   pub served : EndsWell s
 
 abbrev pub CurrentStays : Type 0

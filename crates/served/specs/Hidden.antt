@@ -12,9 +12,16 @@ use Rattle.rules.specs.Frame.{framed}
 use Rattle.rules.specs.Step.{step}
 use Rattle.rules.specs.Calls.{reset}
 use Rattle.demands.specs.Soundness.{Bytes}
-use Rattle.demands.specs.Held.{fileNo, bytesNo, Opens, heldOn, recordSfi}
+use Rattle.demands.specs.Held.{fileNo, bytesNo, Opens, AsksCode, heldOn, recordSfi}
 use Rattle.demands.specs.Files.{Addresses, ReadsFrom}
+use Rattle.served.specs.Answers.{WithCode, CodeAgrees}
 use Rattle.served.specs.One.{SameAnswer}
+
+-- what a file's right asks of a command: the rights held, and a code where it asks for one; and a code that is there is right (R-9)
+pub record Entitled (c : Card) (right : ℕ) (cmd : List ℕ) : Type 0 where
+  pub opens : Opens (heldOn c) right
+  pub code-asked : AsksCode right → WithCode cmd
+  pub code-right : WithCode cmd → CodeAgrees c cmd
 
 -- two areas with the same bytes in every file but one, of whose bytes nothing is asked but that the card is sound with them
 abbrev pub BytesHidden : Type 0
@@ -22,8 +29,8 @@ BytesHidden =
     (c : Card) (area other cmd random : List ℕ) (n : ℕ) → sound c area ≡ true → sound c other ≡ true → length area ≡ 4096 → length other ≡ 4096
     → length random ≡ 16 → Bytes cmd → ((m : ℕ) → 1 ≤ m → (m ≡ n → ⊥) → bytesNo c area m ≡ bytesNo c other m)
     → SameAnswer (step c area cmd random) (step c other cmd random)
-    ⊎ ((ReadsFrom c (framed cmd) n × Opens (heldOn c) (fileNo c n .read))
-    ⊎ (Addresses c (framed cmd) 0xDC (recordSfi (framed cmd)) n × Opens (heldOn c) (fileNo c n .write)))
+    ⊎ ((ReadsFrom c (framed cmd) n × Entitled c (fileNo c n .read) cmd)
+    ⊎ (Addresses c (framed cmd) 0xDC (recordSfi (framed cmd)) n × Entitled c (fileNo c n .write) cmd))
 
 -- and a reset answers the same on any two areas with which the card is sound
 abbrev pub ResetHidden : Type 0

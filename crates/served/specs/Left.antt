@@ -3,7 +3,7 @@ use Prim.Native.Nat.{ℕ, _+_, _-_, _*_, _%_, _≤_, _<_}
 use mathlib.Core.List.{List, [], _++_}
 use mathlib.Core.Logic.{_⊎_}
 use mathlib.Core.Path.{_≡_}
-use lib.ListN.{length, take, drop, replicate}
+use lib.ListN.{length, take, drop, set, replicate}
 use Rattle.rules.specs.declared.Card.{Card}
 use Rattle.rules.specs.Words.{byte}
 use Rattle.rules.specs.Step.{Stepped}
@@ -16,6 +16,21 @@ mode c = c .response .mode
 
 abbrev pub waiting : Card → List ℕ
 waiting c = take (c .response .count1 * 256 + c .response .count2) (c .response .bytes)
+
+-- the challenge, [] for none
+abbrev pub challenge : Card → List ℕ
+challenge c = take (c .session .len) (c .session .challenge)
+
+-- the card with so many tries left of the transport key, credential 3, and all else as it is (R-9)
+abbrev pub withKeyTries : Card → ℕ → Card
+withKeyTries c left = record {
+  credentials =
+      set (c .credentials) 3
+      (record { value = credentialNo c 3 .value; len = credentialNo c 3 .len; tries = record { left = left; limit = limitNo c 3 } });
+  directory = c .directory;
+  session = c .session;
+  response = c .response;
+}
 
 -- a condition, with the word or the number of its refusal: where it does not hold the refusal, where it holds what comes next
 abbrev pub Ask : (ℕ → Type 0) → Type 0 → ℕ → Type 0 → Type 0

@@ -6,4 +6,5 @@ pub mod One
 pub mod Hidden
 pub mod Pushed
 pub mod Calls
+pub mod Transport
 pub mod Sound

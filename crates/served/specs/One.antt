@@ -5,7 +5,6 @@ use mathlib.Core.List.{List}
 use mathlib.Core.Path.{_≡_}
 use Rattle.rules.specs.declared.Card.{Card}
 use Rattle.rules.specs.Sound.{sound}
-use Rattle.rules.specs.Frame.{Command, framed}
 use Rattle.rules.specs.Step.{Stepped}
 use Rattle.served.specs.Left.{waiting}
 use Rattle.served.specs.Answers.{Select, ReadBinary, UpdateBinary, ReadRecord, UpdateRecord, AppendRecord, Verify, Authenticate, ChangePin, ReloadPin, CreateFile, GetChallenge, GetResponse}
@@ -16,9 +15,9 @@ pub record SameAnswer (s t : Stepped) : Type 0 where
   pub bytes-are : s .bytes ≡ t .bytes
   pub waiting-are : waiting (s .card) ≡ waiting (t .card)
 
-abbrev pub NoSecond : (Card → List ℕ → List ℕ → Command → Stepped → Type 0) → Type 0
+abbrev pub NoSecond : (Card → List ℕ → List ℕ → List ℕ → Stepped → Type 0) → Type 0
 NoSecond Paper =
-    (c : Card) (area random cmd : List ℕ) (s t : Stepped) → sound c area ≡ true → Paper c area random (framed cmd) s → Paper c area random (framed cmd) t → SameAnswer s t
+    (c : Card) (area random cmd : List ℕ) (s t : Stepped) → sound c area ≡ true → Paper c area random cmd s → Paper c area random cmd t → SameAnswer s t
 
 pub record OneAnswer : Type 0 where
   pub select : NoSecond Select

@@ -1,4 +1,4 @@
--- A state is sound when all this holds: document 01's list, with what R-1, R-5, R-6 and R-7 add to it, over the state's fields. The rules' test says just that.
+-- A state is sound when all this holds: document 01's list, with what R-1, R-5 to R-7 and R-9 add to it, over the state's fields. The rules' test says just that.
 use Prim.Native.Nat.{ℕ, _+_, _*_, _%_, _≤_, _<_}
 use mathlib.Core.Bool.{true}
 use mathlib.Core.List.{List, [], _∷_}
@@ -22,11 +22,11 @@ pub record Padded (n m : ℕ) (bytes : List ℕ) : Type 0 where
   pub most : n ≤ m
   pub rest : (i : ℕ) → n ≤ i → byte bytes i ≡ 0
 
--- the device key has 16 bytes, a PIN 6 to 16 digits; a limit of 1 to 128, tries left from 0 to the limit, all of them where the right is held
+-- the device key and the transport key have 16 bytes, a PIN 6 to 16 digits; a limit of 1 to 128, tries left from 0 to the limit, all of them where the right is held
 pub record SoundCredential (n : ℕ) (x : Credential) (right : ℕ) : Type 0 where
   pub value : Padded (x .len) 16 (x .value)
-  pub key : n ≡ 0 → x .len ≡ 16
-  pub pin : (n ≡ 0 → ⊥) → GoodPin (take (x .len) (x .value))
+  pub key : (n ≡ 0) ⊎ (n ≡ 3) → x .len ≡ 16
+  pub pin : ((n ≡ 0) ⊎ (n ≡ 3) → ⊥) → GoodPin (take (x .len) (x .value))
   pub limit : (1 ≤ x .tries .limit) × (x .tries .limit ≤ 128)
   pub left : x .tries .left ≤ x .tries .limit
   pub right-kept : right ≤ 1
@@ -76,11 +76,12 @@ pub record SoundFolders (c : Card) : Type 0 where
 abbrev pub waitNo : Card → ℕ
 waitNo c = c .response .count1 * 256 + c .response .count2
 
--- the current directory exists, and the current file lies in it; a challenge of 4, 8 or 16 bytes or none; at most 256 bytes wait, and none in mode 0
+-- four credentials, the last of which has no right; the current directory exists, and the current file lies in it; a challenge of 4, 8 or 16 bytes or none;
+-- at most 256 bytes wait, and none in mode 0
 pub record Sound (c : Card) (area : List ℕ) : Type 0 where
-  pub three : length (c .credentials) ≡ 3
+  pub four : length (c .credentials) ≡ 4
   pub three-rights : length (c .session .rights) ≡ 3
-  pub credentials : (n : ℕ) → n < 3 → SoundCredential n (credentialNo c n) (rightNo c n)
+  pub credentials : (n : ℕ) → n < 4 → SoundCredential n (credentialNo c n) (rightNo c n)
   pub files : SoundFiles c area
   pub folders : SoundFolders c
   pub current : c .session .current ≤ c .directory .count

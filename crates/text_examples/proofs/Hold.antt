@@ -7,7 +7,7 @@ use mathlib.Core.Path.{_≡_, refl}
 use Rattle.files.specs.Words.{allBelow, seek}
 use Rattle.files.specs.Part.{part, over}
 use Rattle.files.specs.Types.{count, recordLength, size, goodShape}
-use Rattle.files.specs.Rights.{goodRights}
+use Rattle.files.specs.Rights.{goodRights, goodFileRights}
 use Rattle.files.specs.Directory.{used, startAt, extent, findFid, findFolder}
 use Rattle.files.specs.Record.{bytesUsed, soundHeld, soundUsed, partedFile}
 use Rattle.files.specs.Walk.{stands, past, walk, parted}
@@ -26,13 +26,14 @@ use Rattle.text_examples.specs.FileRanges.{file-lines, line-counts, cont
 use Rattle.text_examples.specs.Longest.{longest-text, longest-new}
 use Rattle.text_examples.specs.Folders.{in-root, two-firms, folder-lines, bad-folders}
 use Rattle.text_examples.specs.Refusals.{writer-refuses, reader-refuses, unsound-texts, other-forms}
+use Rattle.text_examples.specs.Transport.{coded-files, line-misplaced}
 use Rattle.text_examples.specs.Waiting.{waiting-written, waiting-read, more-read, modes-read}
 use Rattle.text_examples.specs.Spoilt.{credentials-spoilt, session-spoilt, file-spoilt, cut-and-more}
 use Rattle.text_examples.specs.Rows.{table, EachHolds}
 
 -- whether rows hold, by computation: to unfold this is to unfold every definition that a row may need
 computed : List Row → Bool
-unfolding allBelow part over count recordLength size goodShape goodRights used startAt extent seek findFid findFolder bytesUsed soundHeld soundUsed partedFile stands past walk parted goodContents apart goodFolder soundFile unusedPlace sfisDiffer unusedFolder soundFolder soundFolders soundDirectory partedArea allOf same goodPin goodValue soundValue soundTries soundCredential soundChallenge soundResponse soundCurrent soundState sound digitsIn decimal hexDigit hexOf orDash value line credentialLine sessionLine folderLine folderLines folderCount heldOrUsed fileLine rows contents filesText credentialLines text skip pair hexIn numberFrom number small triesIn credentialIn homeIn sessionIn responseIn fileIn pairs pastRow rowsIn behind filesIn bytesIn folderIn foldersIn laid foldered withFiles foldersRead filesPart cardIn areaIn toText accepted fromText converted
+unfolding allBelow part over count recordLength size goodShape goodRights goodFileRights used startAt extent seek findFid findFolder bytesUsed soundHeld soundUsed partedFile stands past walk parted goodContents apart goodFolder soundFile unusedPlace sfisDiffer unusedFolder soundFolder soundFolders soundDirectory partedArea allOf same goodPin goodValue soundValue soundTries soundCredential soundChallenge soundResponse soundCurrent soundState sound digitsIn decimal hexDigit hexOf orDash value line credentialLine sessionLine folderLine folderLines folderCount heldOrUsed fileLine rows contents filesText credentialLines text skip pair hexIn numberFrom number small triesIn credentialIn homeIn sessionIn responseIn fileIn pairs pastRow rowsIn behind filesIn bytesIn folderIn foldersIn laid foldered withFiles foldersRead filesPart cardIn areaIn toText accepted fromText converted
 computed = allHold
 
 pub documented-hold : allHold documented ≡ true
@@ -143,6 +144,14 @@ pub other-forms-hold : allHold other-forms ≡ true
 unfolding computed
 other-forms-hold = refl
 
+pub coded-files-hold : allHold coded-files ≡ true
+unfolding computed
+coded-files-hold = refl
+
+pub line-misplaced-hold : allHold line-misplaced ≡ true
+unfolding computed
+line-misplaced-hold = refl
+
 pub credentials-spoilt-hold : allHold credentials-spoilt ≡ true
 unfolding computed
 credentials-spoilt-hold = refl
@@ -161,4 +170,4 @@ cut-and-more-hold = refl
 
 pub table-holds : EachHolds table
 table-holds =
-    (documented-hold, (states-hold, (sizes-hold, (counts-hold, (every-number-hold, (every-byte-hold, (every-digit-hold, (credentials-written-hold, (sessions-written-hold, (file-lines-hold, (line-counts-hold, (contents-written-hold, (files-written-hold, (waiting-written-hold, (waiting-read-hold, (more-read-hold, (modes-read-hold, (longest-text-hold, (longest-new-hold, (in-root-hold, (two-firms-hold, (folder-lines-hold, (bad-folders-hold, (writer-refuses-hold, (reader-refuses-hold, (unsound-texts-hold, (other-forms-hold, (credentials-spoilt-hold, (session-spoilt-hold, (file-spoilt-hold, (cut-and-more-hold, tt)))))))))))))))))))))))))))))))
+    (documented-hold, (states-hold, (sizes-hold, (counts-hold, (every-number-hold, (every-byte-hold, (every-digit-hold, (credentials-written-hold, (sessions-written-hold, (file-lines-hold, (line-counts-hold, (contents-written-hold, (files-written-hold, (waiting-written-hold, (waiting-read-hold, (more-read-hold, (modes-read-hold, (longest-text-hold, (longest-new-hold, (in-root-hold, (two-firms-hold, (folder-lines-hold, (bad-folders-hold, (writer-refuses-hold, (reader-refuses-hold, (unsound-texts-hold, (other-forms-hold, (coded-files-hold, (line-misplaced-hold, (credentials-spoilt-hold, (session-spoilt-hold, (file-spoilt-hold, (cut-and-more-hold, tt)))))))))))))))))))))))))))))))))

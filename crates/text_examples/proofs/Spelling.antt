@@ -177,10 +177,12 @@ module _ (form : Form) (c : Card) (b : CardBytes c) where
       let d = credentialLine (credential c 0) in
       let a = credentialLine (credential c 1) in
       let u = credentialLine (credential c 2) in
-      rw (append-assoc d (a ++ u) r, append-assoc a u r)
-      (credential-on (credential c 0) (a ++ (u ++ r)) (b .values 0 (omega arith))
-      ∙ credential-on (credential c 1) (u ++ r) (b .values 1 (omega arith))
-      ∙ credential-on (credential c 2) r (b .values 2 (omega arith)))
+      let t = credentialLine (credential c 3) in
+      rw (append-assoc d (a ++ (u ++ t)) r, append-assoc a (u ++ t) r, append-assoc u t r)
+      (credential-on (credential c 0) (a ++ (u ++ (t ++ r))) (b .values 0 (omega arith))
+      ∙ credential-on (credential c 1) (u ++ (t ++ r)) (b .values 1 (omega arith))
+      ∙ credential-on (credential c 2) (t ++ r) (b .values 2 (omega arith))
+      ∙ credential-on (credential c 3) r (b .values 3 (omega arith)))
 
   current-bytes : Bytes (currentFid (c .directory) (c .session .current))
   current-bytes =

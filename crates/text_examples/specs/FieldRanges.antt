@@ -11,7 +11,7 @@ use Rattle.digits.specs.Digits.{decimal, hexOf, orDash, value, hexPair}
 use Rattle.texts.specs.Text.{new, credentialLine, credentialLines, sessionLine}
 use Rattle.text_examples.specs.Bytes.{chars, hex, equal}
 use Rattle.text_examples.specs.Table.{Row, swept}
-use Rattle.text_examples.specs.Cards.{credential, session, waits, told, key, holder, card}
+use Rattle.text_examples.specs.Cards.{credential, session, waits, told, key, transport-key, holder, card}
 use Rattle.text_examples.specs.Own.{counting, counted, sixteen-digits, digit, digits, fields}
 
 -- every number that a card can have in a text, around the next powers of ten, and the last ones of 32 and of 64 bits
@@ -63,8 +63,9 @@ credentials-written =
     ∷ swept 11 (λ n.
     let a = of-length (n + 6) in
     let u = of-length (16 - n) in
-    equal (credentialLines (card (credential key 7 6) (credential a 90 5) (credential u 100 40) (session 0 0 0 0 []) []))
-    (fields (digits key ∷ chars "7" ∷ chars "6" ∷ []) ++ fields (digits a ∷ chars "90" ∷ chars "5" ∷ []) ++ fields (digits u ∷ chars "100" ∷ chars "40" ∷ [])))
+    equal (credentialLines (card (credential key 7 6) (credential a 90 5) (credential u 100 40) (credential transport-key 64 33) (session 0 0 0 0 []) []))
+    (fields (digits key ∷ chars "7" ∷ chars "6" ∷ []) ++ fields (digits a ∷ chars "90" ∷ chars "5" ∷ []) ++ fields (digits u ∷ chars "100" ∷ chars "40" ∷ [])
+    ++ fields (digits transport-key ∷ chars "64" ∷ chars "33" ∷ [])))
     ∷ []
 
 -- sixteen files, of which each has another FID

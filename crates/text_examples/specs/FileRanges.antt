@@ -61,7 +61,7 @@ abbrev pub contents-written : List Row
 contents-written = swept 70 (λ n. is-dump (take n told)) ∷ []
 
 abbrev pub front : List ℕ
-front = lines ("000102030405060708090A0B0C0D0E0F\t128\t128" ∷ "3837363534333231\t5\t5" ∷ "313233343536\t3\t3" ∷ "0\t0\t0\t-\t-\t0\t-\t3F00" ∷ [])
+front = lines ("000102030405060708090A0B0C0D0E0F\t128\t128" ∷ "3837363534333231\t5\t5" ∷ "313233343536\t3\t3" ∷ "101112131415161718191A1B1C1D1E1F\t10\t10" ∷ "0\t0\t0\t-\t-\t0\t-\t3F00" ∷ [])
 
 -- line and contents of the sixteen files: the first of four has one byte, the others have two
 abbrev pub their-text : ℕ → List File → List ℕ → List ℕ

@@ -11,20 +11,21 @@ use Rattle.text_examples.specs.Table.{Row, in-both-forms, with-folders, 
 use Rattle.text_examples.specs.Cards.{session, in-folders, waits, holder}
 use Rattle.text_examples.specs.Own.{digits, fields}
 use Rattle.text_examples.specs.FileRanges.{after}
-use Rattle.text_examples.specs.Refusals.{device-line, admin-line, user-line, bad, bad-session, bad-files}
+use Rattle.text_examples.specs.Refusals.{device-line, admin-line, user-line, transport-line, bad, bad-session, bad-files}
 
 -- no directory: the root's FID ends session and file lines, and the old text is without it
 abbrev pub in-root : List Row
 in-root =
     in-both-forms (holder (session 0 0 0 0 []) []) []
-    (lines ("000102030405060708090A0B0C0D0E0F\t128\t128" ∷ "3837363534333231\t5\t5" ∷ "313233343536\t3\t3" ∷ "0\t0\t0\t-\t-\t0\t-" ∷ []))
-    (lines ("000102030405060708090A0B0C0D0E0F\t128\t128" ∷ "3837363534333231\t5\t5" ∷ "313233343536\t3\t3" ∷ "0\t0\t0\t-\t-\t0\t-\t3F00" ∷ []))
+    (lines ("000102030405060708090A0B0C0D0E0F\t128\t128" ∷ "3837363534333231\t5\t5" ∷ "313233343536\t3\t3" ∷ "101112131415161718191A1B1C1D1E1F\t10\t10" ∷ "0\t0\t0\t-\t-\t0\t-" ∷ []))
+    (lines ("000102030405060708090A0B0C0D0E0F\t128\t128" ∷ "3837363534333231\t5\t5" ∷ "313233343536\t3\t3" ∷ "101112131415161718191A1B1C1D1E1F\t10\t10" ∷ "0\t0\t0\t-\t-\t0\t-\t3F00" ∷ []))
     ∷ in-both-forms
     (waits 1 (hex 0x1_0090) (holder (session 1 0 0 2 []) (withNewest (newFile 0xA1 0x01 0x2E 3 2 0x40 0x01) 3 1 ∷ withUsed (newFile 0xA1 0x03 0x2C 0 6 0x40 0x40) 4 ∷ [])))
     (hex 0x1_000000012002 ++ hex 0x1_034C37200000)
     (lines ("000102030405060708090A0B0C0D0E0F\t128\t128"
     ∷ "3837363534333231\t5\t5"
     ∷ "313233343536\t3\t3"
+    ∷ "101112131415161718191A1B1C1D1E1F\t10\t10"
     ∷ "1\t0\t0\tA103\t-\t1\t0090"
     ∷ "A101\t2E03024001\t3\t1"
     ∷ "000000012002"
@@ -34,6 +35,7 @@ in-root =
     (lines ("000102030405060708090A0B0C0D0E0F\t128\t128"
     ∷ "3837363534333231\t5\t5"
     ∷ "313233343536\t3\t3"
+    ∷ "101112131415161718191A1B1C1D1E1F\t10\t10"
     ∷ "1\t0\t0\tA103\t-\t1\t0090\t3F00"
     ∷ "A101\t2E03024001\t3\t1\t3F00"
     ∷ "000000012002"
@@ -60,6 +62,7 @@ two-firms =
     (lines ("000102030405060708090A0B0C0D0E0F\t128\t128"
     ∷ "3837363534333231\t5\t5"
     ∷ "313233343536\t3\t3"
+    ∷ "101112131415161718191A1B1C1D1E1F\t10\t10"
     ∷ "0\t1\t0\tA101\t00112233\t0\t-\tB21E"
     ∷ "B101\t01"
     ∷ "B21E\t83"
@@ -77,6 +80,7 @@ two-firms =
     (lines ("000102030405060708090A0B0C0D0E0F\t128\t128"
     ∷ "3837363534333231\t5\t5"
     ∷ "313233343536\t3\t3"
+    ∷ "101112131415161718191A1B1C1D1E1F\t10\t10"
     ∷ "0\t0\t0\t-\t-\t0\t-\t0001"
     ∷ "B101\t00"
     ∷ "B201\t40"
@@ -93,7 +97,7 @@ their-lines (x ∷ xs) = fields (digits (x .fid1 ∷ x .fid2 ∷ []) ∷ digits 
 abbrev pub homes-are : ℕ → ℕ → ℕ → Bool
 homes-are n current home =
     equal (text new (in-folders (take n four) current (holder (session 0 0 0 0 []) (inFolder home (newFile 0xA1 0x01 0x28 0 1 0x00 0x00) ∷ []))) (7 ∷ []))
-    (lines (device-line ∷ admin-line ∷ user-line ∷ [])
+    (lines (device-line ∷ admin-line ∷ user-line ∷ transport-line ∷ [])
     ++ fields (chars "0" ∷ chars "0" ∷ chars "0" ∷ chars "-" ∷ chars "-" ∷ chars "0" ∷ chars "-" ∷ home-of current ∷ [])
     ++ their-lines (take n four)
     ++ fields (chars "A101" ∷ chars "2800010000" ∷ chars "0" ∷ chars "0" ∷ home-of home ∷ [])
@@ -132,6 +136,9 @@ bad-folders =
     ∷ bad-files ("B11F\t01" ∷ [])
     ∷ bad-files ("B101\t02" ∷ [])
     ∷ bad-files ("B101\t10" ∷ [])
+    -- a creation right asks for no code
+    ∷ bad-files ("B101\t04" ∷ [])
+    ∷ bad-files ("B101\t44" ∷ [])
     ∷ bad-files ("A101\t01" ∷ "A101\t2800010000\t0\t0\t3F00" ∷ "00" ∷ [])
     ∷ bad-files ("3F00\t01" ∷ [])
     ∷ bad-files ("B101\t01" ∷ "B201\t01" ∷ "B301\t01" ∷ "B401\t01" ∷ "B501\t01" ∷ [])
@@ -145,6 +152,6 @@ bad-folders =
     ∷ bad-files ("01\tB101" ∷ [])
     -- an SFI twice in a directory, and a current file of another directory
     ∷ bad-files ("B101\t01" ∷ "A101\t2800010000\t0\t0\tB101" ∷ "00" ∷ "A201\t2800010000\t0\t0\tB101" ∷ "00" ∷ [])
-    ∷ bad (device-line ∷ admin-line ∷ user-line ∷ "0\t0\t0\tA101\t-\t0\t-\tB101" ∷ "B101\t01" ∷ "A101\t2800010000\t0\t0\t3F00" ∷ "00" ∷ [])
-    ∷ bad (device-line ∷ admin-line ∷ user-line ∷ "0\t0\t0\tA101\t-\t0\t-\t3F00" ∷ "B101\t01" ∷ "A101\t2800010000\t0\t0\tB101" ∷ "00" ∷ [])
+    ∷ bad (device-line ∷ admin-line ∷ user-line ∷ transport-line ∷ "0\t0\t0\tA101\t-\t0\t-\tB101" ∷ "B101\t01" ∷ "A101\t2800010000\t0\t0\t3F00" ∷ "00" ∷ [])
+    ∷ bad (device-line ∷ admin-line ∷ user-line ∷ transport-line ∷ "0\t0\t0\tA101\t-\t0\t-\t3F00" ∷ "B101\t01" ∷ "A101\t2800010000\t0\t0\tB101" ∷ "00" ∷ [])
     ∷ []

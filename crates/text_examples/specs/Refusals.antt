@@ -13,12 +13,12 @@ use Rattle.text_examples.specs.Bytes.{lines}
 use Rattle.text_examples.specs.Table.{Row, unwritten, unread, swept, is, filler, writes}
 use Rattle.text_examples.specs.Cards.{session, waits, told, holder}
 
--- a card whose text has 98 bytes
+-- a card whose text has 137 bytes
 abbrev pub plain : Card
 plain = holder (session 1 1 1 0 []) []
 
 abbrev pub plain-text : List ℕ
-plain-text = lines ("000102030405060708090A0B0C0D0E0F\t128\t128" ∷ "3837363534333231\t5\t5" ∷ "313233343536\t3\t3" ∷ "1\t1\t1\t-\t-\t0\t-\t3F00" ∷ [])
+plain-text = lines ("000102030405060708090A0B0C0D0E0F\t128\t128" ∷ "3837363534333231\t5\t5" ∷ "313233343536\t3\t3" ∷ "101112131415161718191A1B1C1D1E1F\t10\t10" ∷ "1\t1\t1\t-\t-\t0\t-\t3F00" ∷ [])
 
 -- one that is not sound: a right is kept as 2
 abbrev pub unsound : Card
@@ -35,27 +35,27 @@ counts-waiting count1 count2 last = withResponse plain (record { mode = 1; count
 -- 2 data area not 4,096 bytes; 4 state not sound; 10 text buffer too short
 abbrev pub writer-refuses : List Row
 writer-refuses =
-    unwritten plain [] 98 2
-    ∷ unwritten plain (filler 4095) 98 2
-    ∷ unwritten plain (filler 4097) 98 2
+    unwritten plain [] 137 2
+    ∷ unwritten plain (filler 4095) 137 2
+    ∷ unwritten plain (filler 4097) 137 2
     -- 2 before 4 and before 10
-    ∷ unwritten unsound (filler 4095) 98 2
-    ∷ unwritten plain (filler 4097) 97 2
+    ∷ unwritten unsound (filler 4095) 137 2
+    ∷ unwritten plain (filler 4097) 136 2
     ∷ unwritten unsound (filler 0) 0 2
     -- 4 before 10
-    ∷ unwritten unsound (filler 4096) 9518 4
+    ∷ unwritten unsound (filler 4096) 9559 4
     ∷ unwritten unsound (filler 4096) 0 4
-    ∷ unwritten blankCard (filler 4096) 9518 4
-    ∷ unwritten noted (filler 4096) 9518 4
+    ∷ unwritten blankCard (filler 4096) 9559 4
+    ∷ unwritten noted (filler 4096) 9559 4
     -- a mode of 2, a byte that waits in mode 0, 257 that wait, and one past those that do
-    ∷ unwritten (waits 2 [] plain) (filler 4096) 9518 4
-    ∷ unwritten (waits 0 (0 ∷ []) plain) (filler 4096) 9518 4
-    ∷ unwritten (counts-waiting 1 1 0) (filler 4096) 9518 4
-    ∷ unwritten (counts-waiting 0 255 1) (filler 4096) 9518 4
+    ∷ unwritten (waits 2 [] plain) (filler 4096) 9559 4
+    ∷ unwritten (waits 0 (0 ∷ []) plain) (filler 4096) 9559 4
+    ∷ unwritten (counts-waiting 1 1 0) (filler 4096) 9559 4
+    ∷ unwritten (counts-waiting 0 255 1) (filler 4096) 9559 4
     ∷ unwritten noted (2 ∷ filler 4095) 10 10
     -- buffers that are too short, by a byte and by more, and some that are not: bytes behind the text stay
-    ∷ swept 25 (λ n. writes (toText new plain told (filler (4 * n))) 10 plain 0 (filler (4 * n)))
-    ∷ swept 20 (λ n. writes (toText new plain told (filler (98 + n))) 0 plain 98 (plain-text ++ filler n))
+    ∷ swept 35 (λ n. writes (toText new plain told (filler (4 * n))) 10 plain 0 (filler (4 * n)))
+    ∷ swept 20 (λ n. writes (toText new plain told (filler (137 + n))) 0 plain 137 (plain-text ++ filler n))
     ∷ []
 
 -- 2 data area not 4,096 bytes; 11 a text that is not the lines of a sound card
@@ -80,6 +80,9 @@ admin-line = "3837363534333231\t5\t5"
 abbrev pub user-line : String
 user-line = "313233343536\t3\t3"
 
+abbrev pub transport-line : String
+transport-line = "101112131415161718191A1B1C1D1E1F\t10\t10"
+
 abbrev pub session-line : String
 session-line = "1\t1\t1\t-\t-\t0\t-\t3F00"
 
@@ -89,17 +92,20 @@ bad ls = swept 1 (λ o. is false (lines ls))
 
 -- as those of plain, but for one line
 abbrev pub bad-device : String → Row
-bad-device l = bad (l ∷ admin-line ∷ user-line ∷ session-line ∷ [])
+bad-device l = bad (l ∷ admin-line ∷ user-line ∷ transport-line ∷ session-line ∷ [])
 
 abbrev pub bad-user : String → Row
-bad-user l = bad (device-line ∷ admin-line ∷ l ∷ session-line ∷ [])
+bad-user l = bad (device-line ∷ admin-line ∷ l ∷ transport-line ∷ session-line ∷ [])
+
+abbrev pub bad-transport : String → Row
+bad-transport l = bad (device-line ∷ admin-line ∷ user-line ∷ l ∷ session-line ∷ [])
 
 abbrev pub bad-session : String → Row
-bad-session l = bad (device-line ∷ admin-line ∷ user-line ∷ l ∷ [])
+bad-session l = bad (device-line ∷ admin-line ∷ user-line ∷ transport-line ∷ l ∷ [])
 
 -- with lines behind them
 abbrev pub bad-files : List String → Row
-bad-files ls = bad (device-line ∷ admin-line ∷ user-line ∷ session-line ∷ ls)
+bad-files ls = bad (device-line ∷ admin-line ∷ user-line ∷ transport-line ∷ session-line ∷ ls)
 
 -- the form is kept, and the card is not sound
 abbrev pub unsound-texts : List Row
@@ -118,6 +124,14 @@ unsound-texts =
     -- tries over the limit, and a right that is held without all of them
     ∷ bad-user "313233343536\t3\t4"
     ∷ bad-user "313233343536\t3\t2"
+    -- a transport key of 15 and of 17 bytes, of six digits as a PIN has them, and none; its limits of 0 and 129, and a try more than the limit
+    ∷ bad-transport "101112131415161718191A1B1C1D1E\t10\t10"
+    ∷ bad-transport "101112131415161718191A1B1C1D1E1F20\t10\t10"
+    ∷ bad-transport "313233343536\t10\t10"
+    ∷ bad-transport "-\t10\t10"
+    ∷ bad-transport "101112131415161718191A1B1C1D1E1F\t0\t0"
+    ∷ bad-transport "101112131415161718191A1B1C1D1E1F\t129\t129"
+    ∷ bad-transport "101112131415161718191A1B1C1D1E1F\t10\t11"
     -- a right of 2, and of 257
     ∷ bad-session "2\t1\t1\t-\t-\t0\t-\t3F00"
     ∷ bad-session "1\t1\t257\t-\t-\t0\t-\t3F00"
@@ -141,6 +155,11 @@ unsound-texts =
     ∷ bad-files ("A101\t2800000000\t0\t0\t3F00" ∷ [])
     ∷ bad-files ("A101\t2A01010000\t0\t0\t3F00" ∷ "00" ∷ [])
     ∷ bad-files ("A101\t2800010200\t0\t0\t3F00" ∷ "00" ∷ [])
+    -- rights of 06, 0E, 0C and 14, which ask for a code and no good right beside
+    ∷ bad-files ("A101\t2800010600\t0\t0\t3F00" ∷ "00" ∷ [])
+    ∷ bad-files ("A101\t280001000E\t0\t0\t3F00" ∷ "00" ∷ [])
+    ∷ bad-files ("A101\t2800010C00\t0\t0\t3F00" ∷ "00" ∷ [])
+    ∷ bad-files ("A101\t2800010014\t0\t0\t3F00" ∷ "00" ∷ [])
     -- records held in a binary file, more of them than there are places, and more used bytes than there are
     ∷ bad-files ("A101\t2800010000\t1\t0\t3F00" ∷ "00" ∷ [])
     ∷ bad-files ("A101\t2E02010000\t3\t1\t3F00" ∷ "0000" ∷ [])
@@ -197,12 +216,12 @@ other-forms =
     ∷ bad-session "1\t1\t1\t-\t-\t1\t-90\t3F00"
     ∷ bad-session "1\t1\t1\t-\t-\t1\t90\tA1\t3F00"
     -- lines in another order, one twice, one left out, and an empty one
-    ∷ bad (admin-line ∷ device-line ∷ user-line ∷ session-line ∷ [])
-    ∷ bad (session-line ∷ device-line ∷ admin-line ∷ user-line ∷ [])
-    ∷ bad (device-line ∷ admin-line ∷ user-line ∷ user-line ∷ session-line ∷ [])
-    ∷ bad (device-line ∷ admin-line ∷ session-line ∷ [])
-    ∷ bad (device-line ∷ admin-line ∷ user-line ∷ [])
-    ∷ bad (device-line ∷ "" ∷ admin-line ∷ user-line ∷ session-line ∷ [])
+    ∷ bad (admin-line ∷ device-line ∷ user-line ∷ transport-line ∷ session-line ∷ [])
+    ∷ bad (session-line ∷ device-line ∷ admin-line ∷ user-line ∷ transport-line ∷ [])
+    ∷ bad (device-line ∷ admin-line ∷ user-line ∷ user-line ∷ transport-line ∷ session-line ∷ [])
+    ∷ bad (device-line ∷ admin-line ∷ transport-line ∷ session-line ∷ [])
+    ∷ bad (device-line ∷ admin-line ∷ user-line ∷ transport-line ∷ [])
+    ∷ bad (device-line ∷ "" ∷ admin-line ∷ user-line ∷ transport-line ∷ session-line ∷ [])
     ∷ bad-files ("" ∷ [])
     -- counts with a leading zero, in hex, and a place with a sign
     ∷ bad-files ("A101\t2E0C010000\t012\t0\t3F00" ∷ "000000000000000000000000" ∷ [])

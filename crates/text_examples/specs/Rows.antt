@@ -9,6 +9,7 @@ use Rattle.text_examples.specs.FileRanges.{file-lines, line-counts, cont
 use Rattle.text_examples.specs.Longest.{longest-text, longest-new}
 use Rattle.text_examples.specs.Folders.{in-root, two-firms, folder-lines, bad-folders}
 use Rattle.text_examples.specs.Refusals.{writer-refuses, reader-refuses, unsound-texts, other-forms}
+use Rattle.text_examples.specs.Transport.{coded-files, line-misplaced}
 use Rattle.text_examples.specs.Waiting.{waiting-written, waiting-read, more-read, modes-read}
 use Rattle.text_examples.specs.Spoilt.{credentials-spoilt, session-spoilt, file-spoilt, cut-and-more}
 
@@ -19,7 +20,7 @@ table =
     ∷ file-lines ∷ line-counts ∷ contents-written ∷ files-written
     ∷ waiting-written ∷ waiting-read ∷ more-read ∷ modes-read
     ∷ longest-text ∷ longest-new ∷ in-root ∷ two-firms ∷ folder-lines ∷ bad-folders
-    ∷ writer-refuses ∷ reader-refuses ∷ unsound-texts ∷ other-forms
+    ∷ writer-refuses ∷ reader-refuses ∷ unsound-texts ∷ other-forms ∷ coded-files ∷ line-misplaced
     ∷ credentials-spoilt ∷ session-spoilt ∷ file-spoilt ∷ cut-and-more
     ∷ []
 

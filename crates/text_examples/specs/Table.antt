@@ -53,7 +53,7 @@ reads g outcome card area =
 
 -- a blank state, all zero
 abbrev pub blank : List ℕ
-blank = replicate 544 0
+blank = replicate 563 0
 
 -- a text is accepted, or is not
 abbrev pub agree : Bool → Bool → Bool
@@ -114,8 +114,8 @@ holds (in-both-forms c bytes s t) =
     && (turns toNew c s t && (turns toOld c t s
     && (turns-not toNew 11 t 3 && turns-not toOld 11 s 3))))))
 holds (with-folders c bytes t) =
-    holdsIn new c bytes t && (no-old-text c (area-of 0 bytes) 0 && (no-old-text c (area-of 0 bytes) 9518
-    && (turns-not toOld 13 t 3 && (turns-not toOld 13 t 9518 && turns-not toNew 11 t 9518))))
+    holdsIn new c bytes t && (no-old-text c (area-of 0 bytes) 0 && (no-old-text c (area-of 0 bytes) 9559
+    && (turns-not toOld 13 t 3 && (turns-not toOld 13 t 9559 && turns-not toNew 11 t 9559))))
 holds (unwritten c area room outcome) = writes (toText new c area (filler room)) outcome c 0 (filler room)
 holds (unread s size outcome) = reads (fromText new s (filler size)) outcome blank (filler size)
 holds (swept n p) = sweep n p

@@ -10,7 +10,7 @@ use Rattle.text_examples.specs.Bytes.{chars, lines, equal}
 use Rattle.text_examples.specs.Table.{Row, written, swept, is}
 use Rattle.text_examples.specs.Cards.{session, waits, told, holder}
 use Rattle.text_examples.specs.Own.{counting, counted, digits, fields}
-use Rattle.text_examples.specs.Refusals.{device-line, admin-line, user-line}
+use Rattle.text_examples.specs.Refusals.{device-line, admin-line, user-line, transport-line}
 
 -- a card in which these bytes wait
 abbrev pub waiting : ℕ → List ℕ → Card
@@ -21,7 +21,7 @@ abbrev pub ending : List ℕ → List ℕ → List ℕ
 ending mode said = fields (chars "0" ∷ chars "0" ∷ chars "0" ∷ chars "-" ∷ chars "-" ∷ mode ∷ said ∷ chars "3F00" ∷ [])
 
 abbrev pub said-so : List ℕ → List ℕ → List ℕ
-said-so mode said = lines (device-line ∷ admin-line ∷ user-line ∷ []) ++ ending mode said
+said-so mode said = lines (device-line ∷ admin-line ∷ user-line ∷ transport-line ∷ []) ++ ending mode said
 
 -- n bytes that tell their index, and how they are said
 abbrev pub some : ℕ → List ℕ

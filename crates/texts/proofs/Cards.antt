@@ -19,8 +19,8 @@ use Rattle.files.proofs.Checks.{both}
 use Rattle.rules.specs.declared.Credential.{Credential}
 use Rattle.rules.specs.declared.Card.{Card}
 use Rattle.rules.specs.Words.{byte, allOf, filledTo}
-use Rattle.rules.specs.State.{Which, device, admin, user, whiches, numberOf, howMany, rightKept, valueOf, challenge, mode, responseSize, waitCount, waiting}
-use Rattle.texts.specs.Text.{Form, line, credentialLine, fidBytes, currentFid, folderBytes, tail, sessionLine, folderLine, createBytes, heldOrUsed, fileLine}
+use Rattle.rules.specs.State.{Which, device, admin, user, whiches, numberOf, howMany, howManyRights, rightKept, valueOf, challenge, mode, responseSize, waitCount, waiting}
+use Rattle.texts.specs.Text.{Form, line, credentialLine, fidBytes, currentFid, folderBytes, tail, holders, sessionLine, folderLine, createBytes, heldOrUsed, fileLine}
 use Rattle.texts.specs.Reading.{ends, skips, triesIn, credentialIn, homeIn, pastHome, currentIn, sessionIn, responseIn, counted, fileIn, housedIn, contentsPart, folderNext, folderIn}
 use Rattle.texts.specs.Laws.{Bytes, FileBytes, FolderBytes}
 use Rattle.texts.proofs.Digits.{digit-stays}
@@ -78,8 +78,17 @@ pub each-kept : {A : Type 0} (xs : List A) (none : A) → length xs ≡ howMany 
 each-kept [] none h = absurd (omega arith)
 each-kept (a ∷ []) none h = absurd (omega arith)
 each-kept (a ∷ b ∷ []) none h = absurd (omega arith)
-each-kept (a ∷ b ∷ c ∷ []) none h = refl
-each-kept (a ∷ b ∷ c ∷ d ∷ more) none h = absurd (omega arith)
+each-kept (a ∷ b ∷ c ∷ []) none h = absurd (omega arith)
+each-kept (a ∷ b ∷ c ∷ d ∷ []) none h = refl
+each-kept (a ∷ b ∷ c ∷ d ∷ e ∷ more) none h = absurd (omega arith)
+
+-- and for each that has a right
+rights-kept : (xs : List ℕ) → length xs ≡ howManyRights → map (λ (w : Which). getD xs (numberOf w) 0) holders ≡ xs
+rights-kept [] h = absurd (omega arith)
+rights-kept (a ∷ []) h = absurd (omega arith)
+rights-kept (a ∷ b ∷ []) h = absurd (omega arith)
+rights-kept (a ∷ b ∷ c ∷ []) h = refl
+rights-kept (a ∷ b ∷ c ∷ d ∷ more) h = absurd (omega arith)
 
 -- a directory's FID at the end of a line is read as that directory
 abbrev pub Homes : Form → Directory → Directory → ℕ → Type 0
@@ -93,7 +102,7 @@ module _ (form : Form) (c : Card) (r : List ℕ) where
   abbrev d : Directory
   d = c .directory
 
-  session-fields : skips (howMany + 4) (sessionLine form c ++ r) ≡ tail form d (c .session .folder) ++ r
+  session-fields : skips (howManyRights + 4) (sessionLine form c ++ r) ≡ tail form d (c .session .folder) ++ r
   unfolding sessionLine
   session-fields =
       rw (
@@ -106,10 +115,10 @@ module _ (form : Form) (c : Card) (r : List ℕ) where
         skip-home-hex (waiting c) form d (c .session .folder) r,
       )
 
-  pub session-end : pastHome form (skips (howMany + 4) (sessionLine form c ++ r)) ≡ r
+  pub session-end : pastHome form (skips (howManyRights + 4) (sessionLine form c ++ r)) ≡ r
   session-end = rw session-fields (past-home form d (c .session .folder) r)
 
-  pub session-back : length (c .session .rights) ≡ howMany → ((w : Which) → rightKept c (numberOf w) < 256) → length now ≤ 2 → Bytes now → Homes form d d (c .session .folder)
+  pub session-back : length (c .session .rights) ≡ howManyRights → ((w : Which) → rightKept c (numberOf w) < 256) → length now ≤ 2 → Bytes now → Homes form d d (c .session .folder)
       → currentIn d (c .session .folder) now ≡ c .session .current → Front 16 (c .session .len) (c .session .challenge) → sessionIn d (sessionLine form c ++ r) ≡ c .session
   unfolding sessionLine sessionIn
   session-back e low n b h cur f =
@@ -135,7 +144,7 @@ module _ (form : Form) (c : Card) (r : List ℕ) where
       (ap
       (λ (l : List ℕ).
       record { rights = l; current = c .session .current; challenge = c .session .challenge; len = c .session .len; folder = c .session .folder })
-      (each-kept (c .session .rights) 0 e))
+      (rights-kept (c .session .rights) e))
 
   pub response-back : mode c < 256 → c .response .count2 < 256 → Front responseSize (waitCount (c .response)) (c .response .bytes) → responseIn (sessionLine form c ++ r) ≡ c .response
   unfolding sessionLine responseIn

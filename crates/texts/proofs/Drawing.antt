@@ -149,12 +149,13 @@ unfolding folderCount
 folders-begin d n p e = let k : n - 0 ≡ min (d .number) 4 = omega arith in rw k
 
 -- the lines of a card
-pub credentials-drawn : (c : Card) (p p₁ p₂ p₃ : Page) → p₁ ≡ draw (credentialLine (credential c 0)) p → p₂ ≡ draw (credentialLine (credential c 1)) p₁ → p₃ ≡ draw (credentialLine (credential c 2)) p₂
-    → p₃ ≡ draw (credentialLines c) p
+pub credentials-drawn : (c : Card) (p p₁ p₂ p₃ p₄ : Page) → p₁ ≡ draw (credentialLine (credential c 0)) p → p₂ ≡ draw (credentialLine (credential c 1)) p₁ → p₃ ≡ draw (credentialLine (credential c 2)) p₂
+    → p₄ ≡ draw (credentialLine (credential c 3)) p₃ → p₄ ≡ draw (credentialLines c) p
 unfolding credentialLines
-credentials-drawn c p p₁ p₂ p₃ e₁ e₂ e₃ =
-    draws-then (credentialLine (credential c 0)) (credentialLine (credential c 1) ++ credentialLine (credential c 2)) p p₁ p₃ e₁
-    (draws-then (credentialLine (credential c 1)) (credentialLine (credential c 2)) p₁ p₂ p₃ e₂ e₃)
+credentials-drawn c p p₁ p₂ p₃ p₄ e₁ e₂ e₃ e₄ =
+    draws-then (credentialLine (credential c 0)) (credentialLine (credential c 1) ++ (credentialLine (credential c 2) ++ credentialLine (credential c 3))) p p₁ p₄ e₁
+    (draws-then (credentialLine (credential c 1)) (credentialLine (credential c 2) ++ credentialLine (credential c 3)) p₁ p₂ p₄ e₂
+    (draws-then (credentialLine (credential c 2)) (credentialLine (credential c 3)) p₂ p₃ p₄ e₃ e₄))
 
 pub card-drawn : (form : Form) (c : Card) (area : List ℕ) (p p₁ p₂ p₃ p₄ : Page)
     → p₁ ≡ draw (credentialLines c) p → p₂ ≡ draw (sessionLine form c) p₁ → p₃ ≡ draw (folderLines (take (folderCount (c .directory)) (c .directory .folders))) p₂

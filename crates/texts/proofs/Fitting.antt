@@ -1,4 +1,4 @@
--- No sound card has a longer text than 9,518 bytes, in the old form 9,401.
+-- No sound card has a longer text than 9,559 bytes, in the old form 9,442.
 -- Assumes nothing.
 use Prim.Native.Nat.{ℕ, zero, suc, _+_, _-_, _*_, _≤_, _<_, min}
 use mathlib.Core.Bool.{Bool, true, false, cond, _||_}
@@ -25,7 +25,7 @@ use Rattle.files.proofs.Kept.{filed}
 use Rattle.rules.specs.declared.Credential.{Credential}
 use Rattle.rules.specs.declared.Card.{Card}
 use Rattle.rules.specs.Words.{allOf}
-use Rattle.rules.specs.State.{Which, device, admin, user, numberOf, credential, rightKept, valueOf, challenge, mode, responseSize, waitCount, waiting}
+use Rattle.rules.specs.State.{Which, device, admin, user, transport, numberOf, credential, rightKept, valueOf, challenge, mode, responseSize, waitCount, waiting}
 use Rattle.rules.specs.Sound.{goodValue, soundValue, goodChallenge, soundChallenge}
 use Rattle.rules.proofs.Good.{Good, numbered, sound-good, said-short, responded}
 use Rattle.texts.specs.Text.{Form, line, credentialLine, credentialLines, currentFid, folderBytes, homeFid, home, sessionLine, folderLine, folderLines, folderCount, fidBytes, createBytes, heldOrUsed, fileLine, contents, filesText, text}
@@ -194,21 +194,23 @@ module _ (c : Card) (g : Good c) where
       let t = tries-low (credential c (numberOf w)) _ (k .tries) in
       credential-length (credential c (numberOf w)) (value-short (numberOf w) (credential c (numberOf w)) (k .value)) (t .0) (t .1)
 
-  credentials-length : length (credentialLines c) ≤ 123
+  credentials-length : length (credentialLines c) ≤ 164
   unfolding credentialLines
   credentials-length =
       omega (
         arith,
-        length-append (credentialLine (credential c 0)) (credentialLine (credential c 1) ++ credentialLine (credential c 2)),
-        length-append (credentialLine (credential c 1)) (credentialLine (credential c 2)),
+        length-append (credentialLine (credential c 0)) (credentialLine (credential c 1) ++ (credentialLine (credential c 2) ++ credentialLine (credential c 3))),
+        length-append (credentialLine (credential c 1)) (credentialLine (credential c 2) ++ credentialLine (credential c 3)),
+        length-append (credentialLine (credential c 2)) (credentialLine (credential c 3)),
         line-at device,
         line-at admin,
         line-at user,
+        line-at transport,
       )
 
 -- the old form has neither directories nor their FIDs
 all-fit : (form : Form) (n count total : ℕ) → cond form true (isZero n) ≡ true → n ≤ 4 → count ≤ 16
-    → 32 * total ≤ 32 * (123 + 559 + 8 * n + homes form 1) + 799 * count + 65 * 4096 + 32 * homes form count → total ≤ longest form
+    → 32 * total ≤ 32 * (164 + 559 + 8 * n + homes form 1) + 799 * count + 65 * 4096 + 32 * homes form count → total ≤ longest form
 all-fit true n count total o h l k = omega arith
 all-fit false n count total o h l k = let z : n ≡ 0 = eqb-true _ _ o in omega arith
 

@@ -27,7 +27,7 @@ use Rattle.rules.specs.declared.Card.{Card}
 use Rattle.rules.specs.declared.Answer.{Answer}
 use Rattle.rules.specs.Calls.{answer}
 use Rattle.rules.specs.Words.{byte, same}
-use Rattle.rules.specs.State.{howMany, responseSize, responseOf, blankCard}
+use Rattle.rules.specs.State.{howManyRights, responseSize, responseOf, blankCard}
 use Rattle.rules.specs.Sound.{sound}
 use Rattle.texts.specs.Text.{Form, new, text, ofForm}
 use Rattle.digits.specs.Page.{Draws}
@@ -68,10 +68,10 @@ pub folder-is : (s rest : List ℕ) (n m : ℕ) (fid right : List ℕ) (r : Fold
 unfolding folderIn
 folder-is s rest n m fid right r f e g h = h ∙ rw (byte-of 2 s n fid 0 f, byte-of 2 s n fid 1 f, byte-of 1 rest m right 0 g, e)
 
-pub session-is : (d : Directory) (s rights : List ℕ) (home cur n : ℕ) (left : List ℕ) → rights ≡ rightsIn s → home ≡ homeIn d (skips (howMany + 4) s) → cur ≡ currentIn d home (hexIn 2 (skips howMany s))
-    → Fills (hexIn 16 (skips (suc howMany) s)) (replicate 16 0) n left → (x : Session) → x ≡ record { rights = rights; current = cur; challenge = left; len = n; folder = home } → x ≡ sessionIn d s
+pub session-is : (d : Directory) (s rights : List ℕ) (home cur n : ℕ) (left : List ℕ) → rights ≡ rightsIn s → home ≡ homeIn d (skips (howManyRights + 4) s) → cur ≡ currentIn d home (hexIn 2 (skips howManyRights s))
+    → Fills (hexIn 16 (skips (suc howManyRights) s)) (replicate 16 0) n left → (x : Session) → x ≡ record { rights = rights; current = cur; challenge = left; len = n; folder = home } → x ≡ sessionIn d s
 unfolding sessionIn
-session-is d s rights home cur n left e k c f x h = h ∙ rw (e, c, k, f .left-is, laid-filled 16 (skips (suc howMany) s), f .count-is)
+session-is d s rights home cur n left e k c f x h = h ∙ rw (e, c, k, f .left-is, laid-filled 16 (skips (suc howManyRights) s), f .count-is)
 
 -- the bytes read are those at the front of the buffer
 hex-front : (m : ℕ) (s : List ℕ) (n : ℕ) (left : List ℕ) → Fills (hexIn m s) (replicate m 0) n left → take n left ≡ hexIn m s
@@ -82,7 +82,7 @@ hex-front m s n left f =
 pub hex-part : (m : ℕ) (s : List ℕ) (n : ℕ) (left : List ℕ) → Fills (hexIn m s) (replicate m 0) n left → n ≡ length (take n left)
 hex-part m s n left f = f .count-is ∙ ap length (sym (hex-front m s n left f))
 
-pub response-is : (s rest : List ℕ) (mode n : ℕ) (left : List ℕ) (x : Response) → mode ≡ small (skips (howMany + 2) s) → rest ≡ skips (howMany + 3) s
+pub response-is : (s rest : List ℕ) (mode n : ℕ) (left : List ℕ) (x : Response) → mode ≡ small (skips (howManyRights + 2) s) → rest ≡ skips (howManyRights + 3) s
     → Fills (hexIn responseSize rest) (replicate responseSize 0) n left → x ≡ responseOf mode (take responseSize (take n left)) → x ≡ responseIn s
 unfolding responseIn
 response-is s rest mode n left x m e f h =
@@ -122,11 +122,11 @@ directory-loaded form s lines rest image left e d n hl he hn hr size l =
     let r : rest ≡ skips (length (foldersIn (mostFoldersOf form) (foldersPart form s)) + length (foldersIn (mostFoldersOf form) (foldersPart form s))) (foldersPart form s) = hr ∙ rw (m, hl) in
     record { directory-is = l .directory-is ∙ rw (size, r, he, hl); left-is = l .left-is ∙ rw (size, r) }
 
-pub card-loaded : (form : Form) (s image left : List ℕ) (v a u : Credential) (d : Directory) (ss : Session) (rs : Response) (x : Card) → v ≡ credentialIn s → a ≡ credentialIn (skips 3 s) → u ≡ credentialIn (skips 6 s)
-    → LoadsDirectory form s image d left → ss ≡ sessionIn d (sessionPart s) → rs ≡ responseIn (sessionPart s)
-    → x ≡ record { credentials = v ∷ a ∷ u ∷ []; directory = d; session = ss; response = rs } → LoadsCard form s image x left
+pub card-loaded : (form : Form) (s image left : List ℕ) (v a u t : Credential) (d : Directory) (ss : Session) (rs : Response) (x : Card) → v ≡ credentialIn s → a ≡ credentialIn (skips 3 s) → u ≡ credentialIn (skips 6 s)
+    → t ≡ credentialIn (skips 9 s) → LoadsDirectory form s image d left → ss ≡ sessionIn d (sessionPart s) → rs ≡ responseIn (sessionPart s)
+    → x ≡ record { credentials = v ∷ a ∷ u ∷ t ∷ []; directory = d; session = ss; response = rs } → LoadsCard form s image x left
 unfolding cardIn
-card-loaded form s image left v a u d ss rs x hv ha hu l hs hr h = record { card-is = h ∙ rw (hs, hr, l .directory-is, hv, ha, hu); left-is = l .left-is }
+card-loaded form s image left v a u t d ss rs x hv ha hu ht l hs hr h = record { card-is = h ∙ rw (hs, hr, l .directory-is, hv, ha, hu, ht); left-is = l .left-is }
 
 -- the text of a sound card, drawn on a page that takes it
 abbrev size₀ : ℕ

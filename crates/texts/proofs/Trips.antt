@@ -34,7 +34,7 @@ use Rattle.rules.specs.declared.Response.{Response}
 use Rattle.rules.specs.declared.Card.{Card}
 use Rattle.rules.specs.Calls.{answer}
 use Rattle.rules.specs.Words.{byte, allOf, same}
-use Rattle.rules.specs.State.{Which, device, admin, user, whiches, numberOf, noCredential, credential, valueOf, challenge, responseSize, waitCount}
+use Rattle.rules.specs.State.{Which, device, admin, user, transport, whiches, numberOf, noCredential, credential, valueOf, challenge, responseSize, waitCount}
 use Rattle.rules.specs.Sound.{goodValue, soundValue, goodChallenge, soundChallenge, soundResponse, sound}
 use Rattle.rules.proofs.Good.{Good, Lies, Tried, numbered, sound-good, sound-parted, sound-both, said-short, responded}
 use Rattle.rules.proofs.Equal.{same-equal, equal-same}
@@ -312,13 +312,15 @@ module _ (form : Form) (c : Card) (area : List ℕ) (ok : SoundCard form c area)
   abbrev lineOf : Which → List ℕ
   lineOf w = credentialLine (credential c (numberOf w))
 
-  text-is : text form c area ≡ lineOf device ++ (lineOf admin ++ (lineOf user ++ sessionPage))
+  text-is : text form c area ≡ lineOf device ++ (lineOf admin ++ (lineOf user ++ (lineOf transport ++ sessionPage)))
   unfolding text credentialLines
   text-is =
-      append-assoc (lineOf device) (lineOf admin ++ lineOf user) sessionPage ∙ ap (λ (l : List ℕ). lineOf device ++ l) (append-assoc (lineOf admin) (lineOf user) sessionPage)
+      append-assoc (lineOf device) (lineOf admin ++ (lineOf user ++ lineOf transport)) sessionPage
+      ∙ ap (λ (l : List ℕ). lineOf device ++ l)
+      (append-assoc (lineOf admin) (lineOf user ++ lineOf transport) sessionPage ∙ ap (λ (l : List ℕ). lineOf admin ++ l) (append-assoc (lineOf user) (lineOf transport) sessionPage))
 
   pub session-page : sessionPart (text form c area) ≡ sessionPage
-  session-page = rw (text-is, credential-end (credential c 0), credential-end (credential c 1), credential-end (credential c 2))
+  session-page = rw (text-is, credential-end (credential c 0), credential-end (credential c 1), credential-end (credential c 2), credential-end (credential c 3))
 
   folders-page : foldersPart form (text form c area) ≡ foldersPage
   folders-page = rw session-page (session-end form c foldersPage)
@@ -366,8 +368,11 @@ module _ (form : Form) (c : Card) (area : List ℕ) (ok : SoundCard form c area)
   user-is : credentialIn (skips 6 (text form c area)) ≡ credential c 2
   user-is = rw (text-is, credential-end (credential c 0), credential-end (credential c 1)) (credential-at user _)
 
+  transport-is : credentialIn (skips 9 (text form c area)) ≡ credential c 3
+  transport-is = rw (text-is, credential-end (credential c 0), credential-end (credential c 1), credential-end (credential c 2)) (credential-at transport _)
+
   credentials-are : map (λ (w : Which). credentialIn (skips (3 * numberOf w) (text form c area))) whiches ≡ c .credentials
-  credentials-are = rw (device-is, admin-is, user-is) (each-kept (c .credentials) noCredential (g .all-there))
+  credentials-are = rw (device-is, admin-is, user-is, transport-is) (each-kept (c .credentials) noCredential (g .all-there))
 
   session-is : sessionIn d (sessionPart (text form c area)) ≡ c .session
   session-is =

@@ -22,8 +22,8 @@ use Rattle.rules.specs.declared.Session.{Session}
 use Rattle.rules.specs.declared.Response.{Response}
 use Rattle.rules.specs.declared.Card.{Card}
 use Rattle.rules.specs.Words.{byte, filled}
-use Rattle.rules.specs.State.{whiches, numberOf, howMany, credentialOf, responseSize, responseOf}
-use Rattle.texts.specs.Text.{Form, linesFor}
+use Rattle.rules.specs.State.{whiches, numberOf, howMany, howManyRights, credentialOf, responseSize, responseOf}
+use Rattle.texts.specs.Text.{Form, holders, linesFor}
 
 -- a tab or a newline ends a field
 abbrev pub ends : ℕ → Bool
@@ -84,16 +84,16 @@ sessionOf rights current challenge home =
     record { rights = rights; current = current; challenge = filled challenge; len = length challenge; folder = home }
 
 abbrev pub rightsIn : List ℕ → List ℕ
-rightsIn s = map (λ w. small (skips (numberOf w) s)) whiches
+rightsIn s = map (λ w. small (skips (numberOf w) s)) holders
 
 unfoldable pub sessionIn : Directory → List ℕ → Session
 sessionIn d s =
-    sessionOf (rightsIn s) (currentIn d (homeIn d (skips (howMany + 4) s)) (hexIn 2 (skips howMany s))) (hexIn 16 (skips (suc howMany) s))
-    (homeIn d (skips (howMany + 4) s))
+    sessionOf (rightsIn s) (currentIn d (homeIn d (skips (howManyRights + 4) s)) (hexIn 2 (skips howManyRights s))) (hexIn 16 (skips (suc howManyRights) s))
+    (homeIn d (skips (howManyRights + 4) s))
 
 -- mode and waiting bytes of the session's line
 unfoldable pub responseIn : List ℕ → Response
-responseIn s = responseOf (small (skips (howMany + 2) s)) (hexIn responseSize (skips (howMany + 3) s))
+responseIn s = responseOf (small (skips (howManyRights + 2) s)) (hexIn responseSize (skips (howManyRights + 3) s))
 
 -- a file with so many records held, or bytes used, and its newest place
 abbrev pub counted : File → ℕ → ℕ → File
@@ -198,7 +198,7 @@ abbrev pub sessionPart : List ℕ → List ℕ
 sessionPart s = skips (3 * howMany) s
 
 abbrev pub foldersPart : Form → List ℕ → List ℕ
-foldersPart form s = pastHome form (skips (howMany + 4) (sessionPart s))
+foldersPart form s = pastHome form (skips (howManyRights + 4) (sessionPart s))
 
 unfoldable pub foldersRead : Form → List ℕ → List Folder
 foldersRead form s = foldersIn (mostFoldersOf form) (foldersPart form s)

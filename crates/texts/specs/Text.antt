@@ -14,7 +14,7 @@ use Rattle.files.specs.Record.{bytesUsed}
 use Rattle.files.specs.Directory.{file, used, folder, mostFolders}
 use Rattle.rules.specs.declared.Credential.{Credential}
 use Rattle.rules.specs.declared.Card.{Card}
-use Rattle.rules.specs.State.{Which, whiches, numberOf, credential, rightKept, valueOf, challenge, mode, waiting}
+use Rattle.rules.specs.State.{Which, whiches, numberOf, howManyRights, credential, rightKept, valueOf, challenge, mode, waiting}
 
 abbrev pub Form : Type 0
 Form = Bool
@@ -66,6 +66,10 @@ parting form = cond form tab newline
 abbrev pub tail : Form → Directory → ℕ → List ℕ
 tail form d place = cond form (line (orDash (homeFid d place) ∷ [])) []
 
+-- those that have a right; the transport key has none
+abbrev pub holders : List Which
+holders = take howManyRights whiches
+
 -- the right of a credential, as 0 or 1
 abbrev pub right : Card → Which → List ℕ
 right c w = decimal (rightKept c (numberOf w))
@@ -74,7 +78,7 @@ right c w = decimal (rightKept c (numberOf w))
 unfoldable pub sessionLine : Form → Card → List ℕ
 sessionLine form c =
     line
-    (map (right c) whiches
+    (map (right c) holders
     ++ (orDash (currentFid (c .directory) (c .session .current))
     ∷ orDash (challenge c)
     ∷ decimal (mode c)
@@ -124,7 +128,7 @@ unfoldable pub filesText : Form → Directory → List File → List ℕ → Lis
 filesText form d [] area = []
 filesText form d (f ∷ fs) area = fileLine form d f ++ (contents (take (size f) area) ++ filesText form d fs (drop (size f) area))
 
--- device key, admin PIN, user PIN
+-- device key, admin PIN, user PIN, transport key
 unfoldable pub credentialLines : Card → List ℕ
 credentialLines c = joined (map (λ w. credentialLine (credential c (numberOf w))) whiches)
 

@@ -5,7 +5,7 @@ mod text; // text.rt: the lines of a card
 pub mod calls; // calls.rt: the writer and the reader
 
 // The longest text that a sound card has.
-pub const TEXT_SIZE: usize = 9518;
+pub const TEXT_SIZE: usize = 9559;
 
 // The two forms of a text: with directories, and without.
 const NEW: bool = true;

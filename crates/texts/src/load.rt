@@ -41,6 +41,7 @@ use rules::CREDENTIALS;
 use rules::Card;
 use rules::Credential;
 use rules::RESPONSE_SIZE;
+use rules::RIGHTS;
 use rules::Response;
 use rules::Session;
 use rules::Tries;
@@ -98,7 +99,7 @@ fn current_in(d: Directory, home: u8, s: &[u8]) -> u8
     find_fid(d, home, two(fid[0], fid[1]) as u16)
 }
 
-fn rights_in(s: &[u8]) -> [u8; CREDENTIALS]
+fn rights_in(s: &[u8]) -> [u8; RIGHTS]
     ensures { λ r. ⌜ r ≡ rightsIn (now (s .entry)) ⌝ }
 {
     [small_in(s), small_in(fields(s, 1)), small_in(fields(s, 2))]
@@ -108,10 +109,10 @@ fn session_in(d: Directory, s: &[u8]) -> Session
     ensures { λ r. ⌜ r ≡ sessionIn d (now (s .entry)) ⌝ }
 {
     let rights = rights_in(s);
-    let home = home_in(d, fields(s, CREDENTIALS + 4));
-    let current = current_in(d, home, fields(s, CREDENTIALS));
+    let home = home_in(d, fields(s, RIGHTS + 4));
+    let current = current_in(d, home, fields(s, RIGHTS));
     let mut challenge = [0u8; 16];
-    let n = hex_in(fields(s, CREDENTIALS + 1), &mut challenge);
+    let n = hex_in(fields(s, RIGHTS + 1), &mut challenge);
     Session {
         rights,
         current,
@@ -125,9 +126,9 @@ fn session_in(d: Directory, s: &[u8]) -> Session
 fn response_in(s: &[u8]) -> Response
     ensures { λ r. ⌜ r ≡ responseIn (now (s .entry)) ⌝ }
 {
-    let mode = small_in(fields(s, CREDENTIALS + 2));
+    let mode = small_in(fields(s, RIGHTS + 2));
     let mut waiting = [0u8; RESPONSE_SIZE];
-    let n = hex_in(fields(s, CREDENTIALS + 3), &mut waiting);
+    let n = hex_in(fields(s, RIGHTS + 3), &mut waiting);
     response_of(mode, &waiting[..n])
 }
 
@@ -278,7 +279,7 @@ fn lines_in(form: bool, s: &[u8]) -> &[u8]
     ensures { λ r. ⌜ now r ≡ foldersPart form (now (s .entry)) ⌝ }
 {
     let rest = fields(s, 3 * CREDENTIALS);
-    let at = skips(rest, 0, CREDENTIALS + 4);
+    let at = skips(rest, 0, RIGHTS + 4);
     from(rest, past_home(form, rest, at))
 }
 
@@ -300,7 +301,8 @@ pub(crate) fn card_in(form: bool, s: &[u8], image: &mut [u8]) -> Card
     let device = credential_in(s);
     let admin = credential_in(fields(s, 3));
     let user = credential_in(fields(s, 6));
-    let credentials = [device, admin, user];
+    let transport = credential_in(fields(s, 9));
+    let credentials = [device, admin, user, transport];
     let rest = fields(s, 3 * CREDENTIALS);
     let directory = directory_in(form, s, image);
     let session = session_in(directory, rest);

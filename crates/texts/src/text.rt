@@ -7,7 +7,7 @@ ghost use Prim.Native.Nat.{_+_, _<_, min};
 ghost use Rattle.digits.specs.Digits.{tab, newline, ended, decimal, hexOf, orDash};
 ghost use Rattle.files.specs.Words.{isZero, Bounded};
 ghost use Rattle.files.specs.Directory.{used, fileAt, folderAt};
-ghost use Rattle.rules.specs.State.{howMany, waitCount};
+ghost use Rattle.rules.specs.State.{howManyRights, waitCount};
 ghost use Rattle.texts.specs.Text.{homeFid, parting, tail, credentialLine, credentialLines, sessionLine, folderLine, folderLines, folderCount, heldOrUsed, fileLine, contents, filesText, text};
 ghost use Rattle.digits.specs.Page.{Draws};
 use digits::NEWLINE;
@@ -34,6 +34,7 @@ use rules::Credential;
 use rules::DEVICE;
 use rules::Response;
 use rules::Session;
+use rules::TRANSPORT;
 use rules::USER;
 
 // The first n bytes as a field.
@@ -92,7 +93,7 @@ fn fid_length(place: u8) -> usize
 
 // The right of a credential, as 0 or 1.
 fn put_right(out: &mut [u8], at: usize, s: Session, n: usize) -> usize
-    requires { ⌜ n < howMany ⌝ }
+    requires { ⌜ n < howManyRights ⌝ }
     ensures { λ r. ⌜ Draws (ended tab (decimal (getD (s .rights) n 0))) (now (out .entry)) at r (now (out .exit)) ⌝ }
 {
     let right = s.rights[n];
@@ -261,9 +262,11 @@ fn put_credentials(out: &mut [u8], at: usize, card: Card) -> usize
     let device = card.credentials[DEVICE];
     let admin = card.credentials[ADMIN];
     let user = card.credentials[USER];
+    let transport = card.credentials[TRANSPORT];
     let a = put_credential(out, at, device);
     let b = put_credential(out, a, admin);
-    put_credential(out, b, user)
+    let c = put_credential(out, b, user);
+    put_credential(out, c, transport)
 }
 
 // The whole text.
