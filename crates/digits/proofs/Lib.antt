@@ -2,4 +2,5 @@
 pub mod Values
 pub mod Written
 pub mod Decimal
+pub mod Back
 pub mod Drawn

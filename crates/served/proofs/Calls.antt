@@ -26,7 +26,7 @@ use Rattle.demands.specs.Held.{rightNo, bitOf, Opens, heldOn}
 use Rattle.demands.proofs.Bound.{credentials-follow}
 use Rattle.demands.proofs.Named.{opens-asked, asked-opens}
 use Rattle.served.specs.Left.{Ask}
-use Rattle.served.specs.Calls.{TurnedAway, Carried, CommandAnswers, NotIssued, GoodPin, GoodOrder, Fresh, IssueAnswers, NotReset, Ended, ResetAnswers, RightsBothWays, OpensFollows}
+use Rattle.served.specs.Calls.{TurnedAway, Carried, CommandAnswers, NotIssued, GoodPin, GoodOrder, Fresh, IssueAnswers, NotReset, Ended, ResetAnswers, BlankZero, RightsBothWays, OpensFollows}
 use Rattle.served.proofs.Credentials.{digits-to, to-digits}
 
 -- a test that says whether a condition holds
@@ -155,6 +155,21 @@ issue-answers o area =
       none-wait = waits-back (o .mode) [];
       area-is = refl;
     })))
+
+-- ---- a blank state
+pub blank-zero : BlankZero
+unfolding over
+blank-zero = record {
+  credentials-are = refl;
+  files-are = (refl, refl);
+  folders-are = (refl, refl);
+  rights-are = refl;
+  currents-are = (refl, refl);
+  challenge-is = record { length-is = refl; bytes-are = refl };
+  mode-is = refl;
+  counts-are = (refl, refl);
+  waiting-are = refl;
+}
 
 -- ---- the rights byte
 pub rights-both-ways : RightsBothWays

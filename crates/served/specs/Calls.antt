@@ -5,7 +5,9 @@ use mathlib.Core.List.{List, [], _∷_, _++_}
 use mathlib.Core.Logic.{_⊎_}
 use mathlib.Core.Path.{_≡_}
 use lib.ListN.{length, drop, replicate}
+use Rattle.files.specs.State.{blankFile, blankFolder}
 use Rattle.rules.specs.declared.Card.{Card}
+use Rattle.rules.specs.declared.Credential.{Credential}
 use Rattle.rules.specs.declared.Answer.{Answer}
 use Rattle.rules.specs.State.{Which, device, admin, user, transport, numberOf, blankCard}
 use Rattle.rules.specs.Sound.{sound}
@@ -52,6 +54,24 @@ pub record NotIssued (area : List ℕ) (x : Issued) (number : ℕ) : Type 0 wher
   pub card-is : x .answer .card ≡ blankCard
   pub count-is : x .answer .n ≡ 0
   pub area-is : x .area ≡ area
+
+-- a blank state is all zero, over the state's fields
+abbrev pub zeroCredential : Credential
+zeroCredential = record { value = replicate 16 0; len = 0; tries = record { left = 0; limit = 0 } }
+
+pub record AllZero (c : Card) : Type 0 where
+  pub credentials-are : c .credentials ≡ replicate 4 zeroCredential
+  pub files-are : (c .directory .count ≡ 0) × (c .directory .files ≡ replicate 16 blankFile)
+  pub folders-are : (c .directory .number ≡ 0) × (c .directory .folders ≡ replicate 4 blankFolder)
+  pub rights-are : c .session .rights ≡ replicate 3 0
+  pub currents-are : (c .session .current ≡ 0) × (c .session .folder ≡ 0)
+  pub challenge-is : Challenge c []
+  pub mode-is : c .response .mode ≡ 0
+  pub counts-are : (c .response .count1 ≡ 0) × (c .response .count2 ≡ 0)
+  pub waiting-are : c .response .bytes ≡ replicate 256 0
+
+abbrev pub BlankZero : Type 0
+BlankZero = AllZero blankCard
 
 -- keys of 16 bytes, PINs of 6 to 16 digits, limits of 1 to 128, mode 0 or 1
 abbrev pub GoodPin : List ℕ → Type 0

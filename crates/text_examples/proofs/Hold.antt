@@ -24,6 +24,7 @@ use Rattle.text_examples.specs.Examples.{documented, states, sizes, coun
 use Rattle.text_examples.specs.FieldRanges.{every-number, every-byte, every-digit, credentials-written, sessions-written}
 use Rattle.text_examples.specs.FileRanges.{file-lines, line-counts, contents-written, files-written}
 use Rattle.text_examples.specs.Longest.{longest-text, longest-new}
+use Rattle.text_examples.specs.Whole.{sixteen-files, all-used, most-free}
 use Rattle.text_examples.specs.Folders.{in-root, two-firms, folder-lines, bad-folders}
 use Rattle.text_examples.specs.Refusals.{writer-refuses, reader-refuses, unsound-texts, other-forms}
 use Rattle.text_examples.specs.Transport.{coded-files, line-misplaced}
@@ -112,6 +113,18 @@ pub longest-new-hold : allHold longest-new ≡ true
 unfolding computed
 longest-new-hold = refl
 
+pub sixteen-files-hold : allHold sixteen-files ≡ true
+unfolding computed
+sixteen-files-hold = refl
+
+pub all-used-hold : allHold all-used ≡ true
+unfolding computed
+all-used-hold = refl
+
+pub most-free-hold : allHold most-free ≡ true
+unfolding computed
+most-free-hold = refl
+
 pub in-root-hold : allHold in-root ≡ true
 unfolding computed
 in-root-hold = refl
@@ -170,4 +183,4 @@ cut-and-more-hold = refl
 
 pub table-holds : EachHolds table
 table-holds =
-    (documented-hold, (states-hold, (sizes-hold, (counts-hold, (every-number-hold, (every-byte-hold, (every-digit-hold, (credentials-written-hold, (sessions-written-hold, (file-lines-hold, (line-counts-hold, (contents-written-hold, (files-written-hold, (waiting-written-hold, (waiting-read-hold, (more-read-hold, (modes-read-hold, (longest-text-hold, (longest-new-hold, (in-root-hold, (two-firms-hold, (folder-lines-hold, (bad-folders-hold, (writer-refuses-hold, (reader-refuses-hold, (unsound-texts-hold, (other-forms-hold, (coded-files-hold, (line-misplaced-hold, (credentials-spoilt-hold, (session-spoilt-hold, (file-spoilt-hold, (cut-and-more-hold, tt)))))))))))))))))))))))))))))))))
+    (documented-hold, (states-hold, (sizes-hold, (counts-hold, (every-number-hold, (every-byte-hold, (every-digit-hold, (credentials-written-hold, (sessions-written-hold, (file-lines-hold, (line-counts-hold, (contents-written-hold, (files-written-hold, (waiting-written-hold, (waiting-read-hold, (more-read-hold, (modes-read-hold, (longest-text-hold, (longest-new-hold, (sixteen-files-hold, (all-used-hold, (most-free-hold, (in-root-hold, (two-firms-hold, (folder-lines-hold, (bad-folders-hold, (writer-refuses-hold, (reader-refuses-hold, (unsound-texts-hold, (other-forms-hold, (coded-files-hold, (line-misplaced-hold, (credentials-spoilt-hold, (session-spoilt-hold, (file-spoilt-hold, (cut-and-more-hold, tt))))))))))))))))))))))))))))))))))))

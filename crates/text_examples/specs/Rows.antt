@@ -7,6 +7,7 @@ use Rattle.text_examples.specs.Examples.{documented, states, sizes, coun
 use Rattle.text_examples.specs.FieldRanges.{every-number, every-byte, every-digit, credentials-written, sessions-written}
 use Rattle.text_examples.specs.FileRanges.{file-lines, line-counts, contents-written, files-written}
 use Rattle.text_examples.specs.Longest.{longest-text, longest-new}
+use Rattle.text_examples.specs.Whole.{sixteen-files, all-used, most-free}
 use Rattle.text_examples.specs.Folders.{in-root, two-firms, folder-lines, bad-folders}
 use Rattle.text_examples.specs.Refusals.{writer-refuses, reader-refuses, unsound-texts, other-forms}
 use Rattle.text_examples.specs.Transport.{coded-files, line-misplaced}
@@ -19,7 +20,7 @@ table =
     ∷ every-number ∷ every-byte ∷ every-digit ∷ credentials-written ∷ sessions-written
     ∷ file-lines ∷ line-counts ∷ contents-written ∷ files-written
     ∷ waiting-written ∷ waiting-read ∷ more-read ∷ modes-read
-    ∷ longest-text ∷ longest-new ∷ in-root ∷ two-firms ∷ folder-lines ∷ bad-folders
+    ∷ longest-text ∷ longest-new ∷ sixteen-files ∷ all-used ∷ most-free ∷ in-root ∷ two-firms ∷ folder-lines ∷ bad-folders
     ∷ writer-refuses ∷ reader-refuses ∷ unsound-texts ∷ other-forms ∷ coded-files ∷ line-misplaced
     ∷ credentials-spoilt ∷ session-spoilt ∷ file-spoilt ∷ cut-and-more
     ∷ []

@@ -1,5 +1,6 @@
 -- What a text says, read without a check: any bytes are read as some card. `Calls` then asks that this card is sound and that its text is the
--- text given, so that nothing here has to tell good texts from bad ones, and no definition here decides what is accepted.
+-- text given, so that nothing here has to tell good texts from bad ones: no other text is accepted, however it is read. That the text of every sound card is
+-- accepted rests on what is read here (`TextAccepted`).
 use Prim.Native.Nat.{ℕ, zero, suc, _+_, _-_, _*_, _%_, _≤_, min}
 use mathlib.Core.Bool.{Bool, cond, _||_}
 use mathlib.Core.List.{List, [], _∷_, _++_, map}
