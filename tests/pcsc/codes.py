@@ -13,6 +13,8 @@ from stack import (ISSUE_WORDS, KEY, TRANSPORT_KEY, OpenscTool, Scriptor, card, 
 RIGHT_PIN = "0020000106313233343536"
 CHALLENGES = ("0084000010", "0084000008", "0084000004")
 SETTINGS = "80E0A102052800080404"  # A102: eight bytes, a code and no right
+AS_IT_WAS = "01020304050607089000"  # what a read of the settings gives that `settings` wrote
+OTHER_SETTINGS = "04D682000CFFFFFFFFFFFFFFFF"
 LOGIN = ["0084000010", "008200001069C4E0D86A7B0430D8CDB78070B4C55A"]  # FIPS 197's appendix C.1, with RANDOM
 RANDOM = "00112233445566778899AABBCCDDEEFF"
 
@@ -105,11 +107,10 @@ def turned(command):
 
 def clip(bus):
     """Between main board and card. The file has eight bytes 01 to 08; each read that shows it is a right code too, and gives tries back."""
-    good = "01020304050607089000"
 
     def as_it_was(why):
         got = bus.send(bus.coded("04B0820004", "08"))
-        check(f"the clip, {why}: the file is as it was", got == good, got)
+        check(f"the clip, {why}: the file is as it was", got == AS_IT_WAS, got)
 
     before = {"6988", "6982", "6E00", "6D00", "6A86", "6700"}
     words = set()
@@ -145,29 +146,47 @@ def clip(bus):
         got = bus.send(command[:-2] if name == "cut short" else command + "AA")
         check(f"the clip has it {name}, with the Lc that it had", got == "6700", got)
         as_it_was(name)
-    command = bus.coded("04D682000CFFFFFFFFFFFFFFFF")
+    command = bus.coded(OTHER_SETTINGS)
     check("the clip makes a plain one of it", bus.send("00D6820008FFFFFFFFFFFFFFFF") == "6982")
     check("and sends the good one too late", bus.send(command) == "6984")
     as_it_was("a plain one")
-    command = bus.coded("04D682000CFFFFFFFFFFFFFFFF", key=KEY)
+    command = bus.coded(OTHER_SETTINGS, key=KEY)
     check("the clip has another key", bus.send(command) == "6988")
     as_it_was("another key")
 
 
+def another(bus, key, kept):
+    """The clip sends to a card with this transport key what is good for a card with TRANSPORT_KEY. kept: a command that was coded for
+    that card's challenge."""
+
+    def as_it_was(why):
+        bus.plain(bus.coded("04B0820004", "08", key), AS_IT_WAS, f"another card, {why}: the file is as it was")
+
+    bus.challenge()
+    bus.plain(kept, "6988", "the first card's command, behind a challenge of another card")
+    as_it_was("the first card's command")
+    if key != TRANSPORT_KEY:
+        bus.plain(bus.coded(OTHER_SETTINGS), "6988", "another card's challenge, under the first card's key")
+        as_it_was("its challenge under the first card's key")
+        bus.plain(bus.coded(OTHER_SETTINGS, key=key), "9000", "another card's challenge, under its own key")
+        bus.plain(bus.coded("04D682000C0102030405060708", key=key), "9000", "and back again")
+
+
 @contextlib.contextmanager
-def settings(*words, slot=0):
-    """A card with the settings, 01 to 08."""
-    lines = [*LOGIN, SETTINGS, LOGIN[0], "04D682000C0102030405060708" + code_of(RANDOM, "04D682000C0102030405060708")]
+def settings(key=TRANSPORT_KEY, tries="10"):
+    """A card with the settings, 01 to 08, and with this transport key."""
+    message = "04D682000C0102030405060708"
+    lines = [*LOGIN, SETTINGS, LOGIN[0], message + code_of(RANDOM, message, key)]
     with tempfile.NamedTemporaryFile("w", prefix="limpet-script-") as script:
         script.write("".join(f"CMD\t{line}\t{RANDOM}\n" for line in lines))
         script.flush()
-        with card("--prepare", script.name, *(words or ISSUE_WORDS), slot=slot) as reader:
+        with card("--prepare", script.name, *ISSUE_WORDS[:6], key, tries) as reader:
             yield reader
 
 
 def limit():
     """Two wrong codes in a row block a transport key whose limit is 2, for good."""
-    with settings(*ISSUE_WORDS[:7], "2"):
+    with settings(tries="2"):
         client = Scriptor()
         bus = Bus(client)
         wrong = "04B082000400000000" + "08"
@@ -197,7 +216,14 @@ def main():
     with settings():
         client = Scriptor()
         clip(Bus(client))
+        kept = Bus(client).coded(OTHER_SETTINGS)
         client.end()
+    for key in (KEY, TRANSPORT_KEY):
+        with settings(key):
+            client = Scriptor()
+            another(Bus(client), key, kept)
+            another(Bus(OpenscTool()), key, kept)
+            client.end()
     limit()
     end()
 
