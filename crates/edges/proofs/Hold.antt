@@ -60,7 +60,7 @@ use Rattle.edges.specs.LoginRanges.{cryptograms, login-of-4, login-of-8}
 use Rattle.edges.specs.ResponseRanges.{response-bytes, issue-modes}
 use Rattle.edges.specs.FolderRanges.{types-created, fids-created, creation-rights, creation-asked, folder-bytes}
 use Rattle.edges.specs.Codes.{codes, unpresented}
-use Rattle.edges.specs.CodeRanges.{coded-lengths, coded-tries, coded-rights, coded-counts, paddings}
+use Rattle.edges.specs.BehindCode.{coded-tries, coded-rights, coded-counts, paddings}
 use Rattle.edges.specs.Coded.{code-late, code-wrong, code-served}
 use Rattle.edges.specs.Edges.{edges, EachHolds}
 
@@ -249,10 +249,6 @@ pub unpresented-hold : allHold unpresented ≡ true
 unfolding computed
 unpresented-hold = refl
 
-pub coded-lengths-hold : allHold coded-lengths ≡ true
-unfolding computed
-coded-lengths-hold = refl
-
 pub coded-tries-hold : allHold coded-tries ≡ true
 unfolding computed
 coded-tries-hold = refl
@@ -283,4 +279,4 @@ code-served-hold = refl
 
 pub edges-hold : EachHolds edges
 edges-hold =
-    (starred-hold, (framing-hold, (selecting-hold, (binaries-hold, (recording-hold, (variables-hold, (holding-rights-hold, (pins-hold, (devices-hold, (creating-hold, (calls-hold, (credentials-hold, (directories-hold, (sessions-hold, (folders-hold, (folder-states-hold, (fetching-hold, (discarding-hold, (modes-hold, (responses-hold, (login-hold, (login-fetched-hold, (class-bytes-hold, (ins-bytes-hold, (frame-lengths-hold, (sfis-hold, (offsets-hold, (rights-created-hold, (rights-asked-hold, (pin-digits-hold, (pin-tries-hold, (orders-hold, (staying-hold, (cryptograms-hold, (login-of-4-hold, (login-of-8-hold, (response-bytes-hold, (issue-modes-hold, (types-created-hold, (fids-created-hold, (creation-rights-hold, (creation-asked-hold, (folder-bytes-hold, (codes-hold, (unpresented-hold, (coded-lengths-hold, (coded-tries-hold, (coded-rights-hold, (coded-counts-hold, (paddings-hold, (code-late-hold, (code-wrong-hold, (code-served-hold, tt)))))))))))))))))))))))))))))))))))))))))))))))))))))
+    (starred-hold, (framing-hold, (selecting-hold, (binaries-hold, (recording-hold, (variables-hold, (holding-rights-hold, (pins-hold, (devices-hold, (creating-hold, (calls-hold, (credentials-hold, (directories-hold, (sessions-hold, (folders-hold, (folder-states-hold, (fetching-hold, (discarding-hold, (modes-hold, (responses-hold, (login-hold, (login-fetched-hold, (class-bytes-hold, (ins-bytes-hold, (frame-lengths-hold, (sfis-hold, (offsets-hold, (rights-created-hold, (rights-asked-hold, (pin-digits-hold, (pin-tries-hold, (orders-hold, (staying-hold, (cryptograms-hold, (login-of-4-hold, (login-of-8-hold, (response-bytes-hold, (issue-modes-hold, (types-created-hold, (fids-created-hold, (creation-rights-hold, (creation-asked-hold, (folder-bytes-hold, (codes-hold, (unpresented-hold, (coded-tries-hold, (coded-rights-hold, (coded-counts-hold, (paddings-hold, (code-late-hold, (code-wrong-hold, (code-served-hold, tt))))))))))))))))))))))))))))))))))))))))))))))))))))
