@@ -23,9 +23,9 @@
  * What is taken at most, measured and not proved (tests/footprint):
  *
  *                     code    constants   stack of a call      C functions needed
- *   liblimpetnook.a   78000   1000        LIMPET_TEXT_STACK    memcpy, memset
+ *   liblimpetnook.a   92000   1250        LIMPET_TEXT_STACK    memcpy, memset
  *   limpet_aes128     1335    0           LIMPET_AES128_STACK  none
- *   limpet_code       2500    820         LIMPET_CODE_STACK    memcpy
+ *   limpet_code       2500    950         LIMPET_CODE_STACK    memcpy
  *
  * The other two rows are each for a program that calls that function alone and is
  * linked with --gc-sections: each function is in a section of its own. A program
@@ -49,7 +49,7 @@ extern "C" {
  *
  *   if (limpet_version() != LIMPET_VERSION) ... header and library do not match
  */
-#define LIMPET_VERSION 11
+#define LIMPET_VERSION 12
 
 uint32_t limpet_version(void);
 
@@ -213,9 +213,11 @@ uint8_t limpet_code(const uint8_t *key, size_t key_len,
  *     tried a PIN, and the try is not counted. Where they cannot be stored, give
  *     no answer and no further command; go on from what is stored.
  *   - Store a copy, by limpet_to_text or byte by byte, and have the old one stay
- *     until the new one is whole. A call changes card and area in place, and what
- *     a loss of power in its middle leaves of them may be no card, or another one.
- *     No call recovers it so far. So lend no call memory that outlasts the power.
+ *     until the new one is whole. Or make the single stores of limpet_store, in
+ *     their order, in a memory that can, and recover by limpet_recover.
+ *   - Lend no call memory that outlasts the power. A call changes card and area in
+ *     place and in any order. What a loss of power in its middle leaves of them may
+ *     be no card, or another one, and limpet_recover is not for that.
  *   - Reset a card that was without power, by limpet_reset, before its first
  *     command. A text, and a copy, bring back the rights that were held in it.
  *   - Whoever puts an earlier text or copy back puts the tries of then back too.
@@ -231,7 +233,7 @@ struct limpet_card;
  *
  * once limpet_version() was seen to be LIMPET_VERSION.
  */
-#define LIMPET_CARD_SIZE 563
+#define LIMPET_CARD_SIZE 581
 
 size_t limpet_card_size(void);
 
@@ -318,6 +320,107 @@ uint8_t limpet_command(struct limpet_card *card,
  * refusal the card is as it was.
  */
 uint8_t limpet_reset(struct limpet_card *card, const uint8_t *area, size_t area_len);
+
+/*
+ * The n-th store that a command makes, from 0 on: for a module whose memory keeps
+ * its bytes without power and stores them one at a time. docs/POWER.md says which
+ * memories do so; flash that is programmed directly does not. A store is one byte of
+ * the card or of the area. Card and area are only read.
+ *
+ *   LIMPET_OK          *given is 1: *value is to be stored at *address. An address
+ *                      below LIMPET_CARD_SIZE is that byte of the card as it lies in
+ *                      memory. From LIMPET_CARD_SIZE on it is a byte of the area,
+ *                      which lies behind the card. Or *given is 0, and so are
+ *                      *address and *value: the command makes at most n stores.
+ *   LIMPET_BAD_AREA    area_len is not LIMPET_AREA_SIZE.
+ *   LIMPET_BAD_RANDOM  random_len is not LIMPET_RANDOM_SIZE.
+ *   LIMPET_UNSOUND     card and area are together no state of a card.
+ *
+ * There is no other outcome, and the first that applies is returned. On a
+ * refusal *given, *address and *value are 0.
+ *
+ * Made in their order, all stores of a command leave of card and area what
+ * limpet_command leaves, but for what does not outlast the power: rights, current
+ * file and directory, challenge, and what waits. After any number of them, from none
+ * to all, limpet_recover makes a card of what is there.
+ *
+ * A module with such a memory keeps a copy of card and area where the power takes
+ * it. For each command it does this, as examples/flash.c shows:
+ *
+ *   for n = 0, 1, 2 and so on, until *given is 0:
+ *       limpet_store on the copy, and *value into the memory at *address
+ *   limpet_command on the same copy
+ *   the answer
+ *
+ *   - Every n is asked for on one card, the copy as it was before the command. On a
+ *     card in which some of the stores were made the answer is LIMPET_UNSOUND, or the
+ *     stores of something else. So make them in the memory, and not in the copy.
+ *   - Command and random input are the same for every n and for limpet_command, and
+ *     reply_len is at least LIMPET_REPLY_SIZE there: refused by LIMPET_SHORT_REPLY, it
+ *     leaves the copy without what the memory has.
+ *   - Store n is in the memory before n + 1 is asked for. Where a PIN, a cryptogram or
+ *     a code is presented, store 0 lowers the tries, and is given before anything is
+ *     compared. Whether there is a store 1 says that it was right.
+ *   - No answer leaves before the last store is in the memory. Where one cannot be
+ *     made, give no answer and no further command; go on as after a loss of power.
+ *
+ * Each call checks card, area and command anew; limpet_stores below does it once for
+ * many stores.
+ */
+uint8_t limpet_store(const struct limpet_card *card,
+                     const uint8_t *area, size_t area_len,
+                     const uint8_t *command, size_t command_len,
+                     const uint8_t *random, size_t random_len,
+                     size_t n,
+                     uint16_t *address, uint8_t *value, uint8_t *given);
+
+/*
+ * The same stores, many at once: for a command that makes thousands of them, since
+ * each call checks card and area anew. From number first on they are written to
+ * stores, three bytes each: the address, high byte first, and the value. Bytes behind
+ * them stay as they were.
+ *
+ *   LIMPET_OK          *count is how many stores were written. 0: the command makes
+ *                      at most first stores, or stores_len is below 3.
+ *   LIMPET_BAD_AREA, LIMPET_BAD_RANDOM, LIMPET_UNSOUND
+ *                      as limpet_store. *count is 0, and stores is as it was.
+ *
+ * With first 0 there is one store at the most, whatever stores_len is: where
+ * something is presented it must be in the memory before anything is compared. So ask
+ * for number 0, make that store, and then ask from number 1 on.
+ */
+uint8_t limpet_stores(const struct limpet_card *card,
+                      const uint8_t *area, size_t area_len,
+                      const uint8_t *command, size_t command_len,
+                      const uint8_t *random, size_t random_len,
+                      uint16_t first,
+                      uint8_t *stores, size_t stores_len, size_t *count);
+
+/*
+ * Makes a card of what a loss of power left in such a memory, in the middle of a
+ * command, in the middle of a recovery, or between two commands. Call it at each
+ * start, on card and area as they are read from the memory, then limpet_reset, and
+ * then give the first command. The area is only read.
+ *
+ *   LIMPET_OK        the card is sound, and reset. What the command that was cut was
+ *                    about to change is as docs/POWER.md says: a PIN is wholly the
+ *                    old one or the new one, a new file is there whole or not at all,
+ *                    a record too. All else is as it was.
+ *   LIMPET_BAD_AREA  area_len is not LIMPET_AREA_SIZE.
+ *   LIMPET_UNSOUND   no sound card results. No loss of power leaves such bytes: the
+ *                    memory is damaged, or has no card.
+ *
+ * There is no other outcome, and the first that applies is returned. On a
+ * refusal the card is as it was.
+ *
+ * What does not outlast the power may be any bytes before, and is cleared. A sound card
+ * is left as limpet_reset leaves it.
+ *
+ * Store the bytes of the card that the call has changed before the first command, from
+ * the lowest address to the highest. Where the power is lost in between, the next
+ * recovery gives the same card.
+ */
+uint8_t limpet_recover(struct limpet_card *card, const uint8_t *area, size_t area_len);
 
 /*
  * Writes a card and its files as lines of text. docs/CARD-FILE.md says what
@@ -408,20 +511,21 @@ uint8_t limpet_text_to_old(const uint8_t *text_given, size_t given_len,
                            size_t *text_count);
 
 /*
- * The caller's side of the five calls on a card and of the two that convert a
+ * The caller's side of the eight calls on a card and of the two that convert a
  * text:
  *   - card points to limpet_card_size() bytes that can be read, and written
- *     too where the pointer is not to const, and is never NULL. reply_count and
- *     text_count each point to a size_t, aligned as such, and are never NULL;
- *     what they hold before does not matter.
+ *     too where the pointer is not to const, and is never NULL. reply_count,
+ *     text_count and count each point to a size_t, and address to a uint16_t, aligned as
+ *     such, value and given to a byte; none is NULL, and what they hold before does
+ *     not matter.
  *   - Each other buffer is a pointer and a number of bytes. So many bytes can
  *     be read there, and written too where the pointer is not to const, during
  *     the whole call. That counts for a number that will be refused as well. A
  *     pointer may be NULL, or point nowhere, only where its number is 0. No such
  *     buffer has to be aligned.
- *   - card, a count and every buffer that the call may write overlap neither
- *     each other nor any other buffer of the call. Those that are only read may
- *     overlap.
+ *   - card, a count, address, value, given and every buffer that the call may write
+ *     overlap neither each other nor any other buffer of the call. Those that are
+ *     only read may overlap.
  *
  * The bytes of card and area may be any. Where they are together no state of a
  * card they are refused with LIMPET_UNSOUND. Where they are one they are served

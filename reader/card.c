@@ -52,6 +52,28 @@ uint8_t card_command(struct bytes command, struct bytes random, uint8_t *reply, 
                           random.at, random.len, reply, LIMPET_REPLY_SIZE, count);
 }
 
+uint8_t card_store(struct bytes command, struct bytes random, size_t n, struct card_store *s)
+{
+    return limpet_store(card(), area, sizeof area, command.at, command.len, random.at, random.len, n, &s->address, &s->value, &s->given);
+}
+
+void card_copy(struct card_bytes *to)
+{
+    memcpy(to->at, kept, sizeof kept);
+    memcpy(to->at + sizeof kept, area, sizeof area);
+}
+
+void card_replace(const struct card_bytes *by)
+{
+    memcpy(kept, by->at, sizeof kept);
+    memcpy(area, by->at + sizeof kept, sizeof area);
+}
+
+uint8_t card_recover(void)
+{
+    return limpet_recover(card(), area, sizeof area);
+}
+
 uint8_t card_to_text(struct card_text *t)
 {
     return limpet_to_text(card(), area, sizeof area, t->at, sizeof t->at, &t->len);

@@ -19,6 +19,21 @@ uint8_t card_mode(void);
 /* random: 16 bytes. reply has room for LIMPET_REPLY_SIZE bytes; *count is how many of them are the answer. */
 uint8_t card_command(struct bytes command, struct bytes random, uint8_t *reply, size_t *count);
 
+/* The n-th store of a command on the card as it is. given: whether there is one. The card stays as it is. */
+struct card_store {
+    uint16_t address;
+    uint8_t value, given;
+};
+uint8_t card_store(struct bytes command, struct bytes random, size_t n, struct card_store *s);
+
+/* The card and its area behind it, as bytes that such a store is made in, and a card that is found there after a loss of power. */
+struct card_bytes {
+    uint8_t at[LIMPET_CARD_SIZE + LIMPET_AREA_SIZE];
+};
+void card_copy(struct card_bytes *to);
+void card_replace(const struct card_bytes *by);
+uint8_t card_recover(void);
+
 /* A card written as lines. There is room for a byte more than any card takes, so that a text that is too long is seen to be. */
 struct card_text {
     uint8_t at[LIMPET_TEXT_SIZE + 1];

@@ -31,6 +31,8 @@ static const struct {
     { offsetof(struct layout, response.mode), "mode" },
     { offsetof(struct layout, response.count1), "number of waiting bytes" },
     { offsetof(struct layout, response.bytes), "waiting bytes" },
+    { offsetof(struct layout, journal.what), "whose journal" },
+    { offsetof(struct layout, journal.bytes), "journal" },
 };
 
 size_t field_at(size_t place)
@@ -262,6 +264,12 @@ static bool sound_response(const struct response *r)
     return r->mode <= 1 && count <= most && are_zero(r->bytes, count, WAITING_ROOM);
 }
 
+/* "A card whose journal is not 00 is unsound." */
+static bool sound_journal(const struct journal *j)
+{
+    return j->what == 0 && are_zero(j->bytes, 0, JOURNAL_ROOM);
+}
+
 bool is_sound(const uint8_t *card, const uint8_t *area)
 {
     struct layout c;
@@ -271,5 +279,52 @@ bool is_sound(const uint8_t *card, const uint8_t *area)
         && sound_directory(&c.directory, area)
         && sound_current(&c.session, &c.directory)
         && sound_challenge(&c.session)
-        && sound_response(&c.response);
+        && sound_response(&c.response)
+        && sound_journal(&c.journal);
+}
+
+bool is_lasting(size_t place)
+{
+    return place < offsetof(struct layout, session) || place == offsetof(struct layout, response.mode)
+        || place >= offsetof(struct layout, journal);
+}
+
+/* False where no cut leaves such a journal: for a key, for nothing that is there, for a file that has no record then. That is damage. */
+static bool carry_out(struct layout *c)
+{
+    const struct journal *j = &c->journal;
+
+    if (j->what == 0)
+        return true;
+    if (j->what == OF_CREDENTIALS + ADMIN || j->what == OF_CREDENTIALS + USER) {
+        struct credential *x = &c->credentials[j->what - OF_CREDENTIALS];
+        memcpy(x->value, j->bytes, VALUE_ROOM);
+        x->length = j->bytes[VALUE_ROOM];
+        return true;
+    }
+    if (j->what < OF_FILES || j->what - OF_FILES >= c->directory.count || j->what - OF_FILES >= FILES)
+        return false;
+    if (j->bytes[0] == 0 && j->bytes[1] == 0 && j->bytes[2] == 0 && j->bytes[3] == 0)
+        return false;
+    struct file *f = &c->directory.files[j->what - OF_FILES];
+    f->held = j->bytes[0];
+    f->newest = j->bytes[1];
+    f->used1 = j->bytes[2];
+    f->used2 = j->bytes[3];
+    return true;
+}
+
+bool recovered(const uint8_t *card, const uint8_t *area, struct layout *to)
+{
+    memcpy(to, card, sizeof *to);
+    if (!carry_out(to))
+        return false;
+    memset(&to->journal, 0, sizeof to->journal);
+    for (size_t i = to->directory.count; i < FILES; i++)
+        memset(&to->directory.files[i], 0, sizeof to->directory.files[i]);
+    for (size_t i = to->directory.number; i < FOLDERS; i++)
+        memset(&to->directory.folders[i], 0, sizeof to->directory.folders[i]);
+    memset(&to->session, 0, sizeof to->session);
+    to->response = (struct response){ .mode = to->response.mode };
+    return is_sound((const uint8_t *)to, area);
 }

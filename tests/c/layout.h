@@ -1,7 +1,7 @@
 /*
  * The bytes of a card, for tests alone: a caller has no business there. They
  * lie as the structs of crates/rules and crates/files have them. And what
- * document 01, "What a card holds", and requests R-1, R-5 to R-7 and R-9 of
+ * document 01, "What a card holds", and requests R-1, R-5 to R-7, R-9 and R-10 of
  * document 02 say of them. A directory of R-7 is a folder here, since the table of
  * all files is the directory.
  */
@@ -66,18 +66,30 @@ struct response {
     uint8_t bytes[WAITING_ROOM];
 };
 
+/*
+ * What a command was about to put in one place, so that a loss of power leaves all of it or nothing. what: 0 for nothing; a
+ * credential's number plus one, and the bytes are its value and its length; a file's place plus OF_FILES, and they are its held, newest,
+ * used1 and used2.
+ */
+enum { JOURNAL_ROOM = VALUE_ROOM + 1, OF_CREDENTIALS = 1, OF_FILES = 16 };
+struct journal {
+    uint8_t what;
+    uint8_t bytes[JOURNAL_ROOM];
+};
+
 struct layout {
     struct credential credentials[CREDENTIALS];
     struct directory directory;
     struct session session;
     struct response response;
+    struct journal journal;
 };
 
 _Static_assert(sizeof(struct layout) == LIMPET_CARD_SIZE, "the card is laid out in another way");
 _Static_assert(_Alignof(struct layout) == 1, "the card has to be aligned");
 
 /* Which field the byte at that place belongs to, and its name, for reports. */
-enum { FIELDS = 24 };
+enum { FIELDS = 26 };
 size_t field_at(size_t place);
 const char *field_name(size_t field);
 
@@ -91,5 +103,14 @@ void set_waiting_count(struct response *r, unsigned count);
 
 /* Whether these bytes and those of an area of LIMPET_AREA_SIZE are together a sound state, by the papers. */
 bool is_sound(const uint8_t *card, const uint8_t *area);
+
+/* Whether the byte at that place of a card outlasts the power: all but the session and what waits, by reading 24. */
+bool is_lasting(size_t place);
+
+/*
+ * What recovery makes of any bytes, by R-10: a journal carried out and cleared, places past the last file and the last folder cleared,
+ * and all that is not lasting. Whether a sound card results: where not, `to` is not to be looked at.
+ */
+bool recovered(const uint8_t *card, const uint8_t *area, struct layout *to);
 
 #endif

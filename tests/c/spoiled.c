@@ -12,7 +12,9 @@
 /* The waiting bytes are half of the card: one card has every value of each of them, and on the others a bit of each is changed. */
 static bool is_left_out(const struct pattern *p, size_t place, unsigned difference)
 {
-    return place >= offsetof(struct layout, response.bytes) && p != in_use() && !is_one_bit(difference);
+    bool waits = offsetof(struct layout, response.bytes) <= place && place < offsetof(struct layout, journal);
+
+    return waits && p != in_use() && !is_one_bit(difference);
 }
 
 /* Every other value of every byte; where a single bit differs, all the commands. */
@@ -627,6 +629,57 @@ static void places_past_the_count(void)
     print_tally("all of them", &t);
 }
 
+/* ---- the journal (R-10) ---- */
+
+/* A journal that is not 00 is for recovery alone: all other calls refuse the card, also where it says what already is. */
+static void try_journal(const struct pattern *p, const struct journal *j, struct tally *t, bool all)
+{
+    static const struct journal none;
+    struct pattern spoiled = *p;
+
+    memcpy(spoiled.card + offsetof(struct layout, journal), j, sizeof *j);
+    call_number++;
+    if (is_sound(spoiled.card, spoiled.area) != (memcmp(j, &none, sizeof none) == 0))
+        wrong("tests/c/layout.c takes a journal for %u for %s", j->what, is_sound(spoiled.card, spoiled.area) ? "none" : "one");
+    count_card(t, &spoiled);
+    try_card(&spoiled, all && !is_short);
+}
+
+/* For everything that a journal may name and may not, with 00 and with what is there already; and each byte of it alone. */
+static void journals_by_hand(void)
+{
+    struct group g = begin("journals, none of which is sound but the empty one");
+    struct tally t = { 0 };
+
+    for (size_t i = 0; i < SORTS; i++) {
+        struct layout c;
+        memcpy(&c, patterns[i].card, sizeof c);
+        for (unsigned what = 0; what < 256; what += is_short ? 5 : 1) {
+            struct journal j = { .what = (uint8_t)what };
+            try_journal(&patterns[i], &j, &t, what < OF_FILES);
+        }
+        for (size_t n = 0; n < CREDENTIALS; n++) {
+            struct journal j = { .what = (uint8_t)(OF_CREDENTIALS + n) };
+            memcpy(j.bytes, c.credentials[n].value, VALUE_ROOM);
+            j.bytes[VALUE_ROOM] = c.credentials[n].length;
+            try_journal(&patterns[i], &j, &t, true);
+        }
+        for (size_t n = 0; n < c.directory.count; n++) {
+            const struct file *f = &c.directory.files[n];
+            struct journal j = { .what = (uint8_t)(OF_FILES + n), .bytes = { f->held, f->newest, f->used1, f->used2 } };
+            try_journal(&patterns[i], &j, &t, true);
+        }
+        for (size_t place = 0; place < JOURNAL_ROOM; place++)
+            for (unsigned value = 1; value < 256; value += value < 4 ? 1 : 63) {
+                struct journal j = { .what = 0 };
+                j.bytes[place] = (uint8_t)value;
+                try_journal(&patterns[i], &j, &t, value == 1);
+            }
+    }
+    end(g);
+    print_tally("all of them", &t);
+}
+
 static void get_response(const struct pattern *p, const uint8_t *command, size_t length)
 {
     struct held h = hold_part(p, LIMPET_AREA_SIZE);
@@ -749,6 +802,7 @@ void try_spoiled_cards(void)
     responses_by_hand();
     modes_and_counts();
     places_past_the_count();
+    journals_by_hand();
     every_get_response();
     fetched_in_parts();
     cards_of_any_bytes();

@@ -23,9 +23,11 @@ static void usage(FILE *to)
 {
     fputs("usage: stack <SCRIPT\n"
           "\n"
-          "Plays the calls of a script, and after each line writes and reads the card as a\n"
-          "text, and converts it into the other form and back. Prints the most bytes of stack\n"
-          "that each kind of call took, and those of limpet_aes128 and limpet_code.\n", to);
+          "Plays the calls of a script. Before each command it asks for the stores that the\n"
+          "command makes, and recovers a copy of the card; after each line it writes and reads\n"
+          "the card as a text, and converts it into the other form and back. Prints the most\n"
+          "bytes of stack that each kind of call took, and those of limpet_aes128 and\n"
+          "limpet_code.\n", to);
 }
 
 static void play_apart(void)
@@ -83,6 +85,33 @@ static void read_apart(void)
     limpet_from_text((struct limpet_card *)card, area, sizeof area, text, text_count);
 }
 
+/* Store number 2 lies behind all checks and comparisons. */
+static void store_apart(void)
+{
+    uint16_t address;
+    uint8_t value, given;
+
+    limpet_store((const struct limpet_card *)player.card, player.area, sizeof player.area, playing->command.at, playing->command.len,
+                 playing->random.at, playing->random.len, 2, &address, &value, &given);
+}
+
+static void stores_apart(void)
+{
+    static uint8_t run[9];
+    size_t run_count;
+
+    limpet_stores((const struct limpet_card *)player.card, player.area, sizeof player.area, playing->command.at, playing->command.len,
+                  playing->random.at, playing->random.len, 1, run, sizeof run, &run_count);
+}
+
+static void recover_apart(void)
+{
+    static uint8_t card[LIMPET_CARD_SIZE];
+
+    memcpy(card, player.card, sizeof card);
+    limpet_recover((struct limpet_card *)card, player.area, sizeof player.area);
+}
+
 /* The stack grows down, so the first byte that changed is the deepest. From it on the stack is filled again. */
 static size_t stack_of(void (*does)(void))
 {
@@ -125,7 +154,7 @@ int main(int count, char **arguments)
     static const struct line no_call = { .wrong = "no call" };
     static const char *const names[] = { [ISSUE_LINE] = "issue", [CMD_LINE] = "command", [RESET_LINE] = "reset" };
     size_t lines, most[] = { [ISSUE_LINE] = 0, [CMD_LINE] = 0, [RESET_LINE] = 0 }, most_written = 0, most_read = 0,
-           most_to_old = 0, most_to_new = 0;
+           most_to_old = 0, most_to_new = 0, most_store = 0, most_stores = 0, most_recovered = 0;
 
     if (count != 1) {
         usage(count == 2 && strcmp(arguments[1], "--help") == 0 ? stdout : stderr);
@@ -136,6 +165,12 @@ int main(int count, char **arguments)
     size_t own = stack_of_line(&no_call);
     struct played *script = read_script(stdin, &lines);
     for (size_t i = 0; i < lines; i++) {
+        if (script[i].line.kind == CMD_LINE) {
+            playing = &script[i].line;
+            raise_to(&most_store, stack_of(store_apart));
+            raise_to(&most_stores, stack_of(stores_apart));
+            raise_to(&most_recovered, stack_of(recover_apart));
+        }
         raise_to(&most[script[i].line.kind], stack_of_line(&script[i].line) - own);
         raise_to(&most_written, stack_of(write_apart));
         raise_to(&most_read, stack_of(read_apart));
@@ -145,6 +180,9 @@ int main(int count, char **arguments)
     free(script);
     for (enum kind k = ISSUE_LINE; k <= RESET_LINE; k++)
         printf("%zu bytes of stack: %s\n", most[k], names[k]);
+    printf("%zu bytes of stack: store\n", most_store);
+    printf("%zu bytes of stack: stores\n", most_stores);
+    printf("%zu bytes of stack: recover\n", most_recovered);
     printf("%zu bytes of stack: to_text\n", most_written);
     printf("%zu bytes of stack: from_text\n", most_read);
     printf("%zu bytes of stack: text_to_old\n", most_to_old);

@@ -2,7 +2,8 @@
  * Wrong presentations that differ in one thing, the place of the byte that is
  * wrong, for a run that counts the instructions of each call of limpet_command:
  * count_instructions of tools/x86/common.sh. A code is one too, of the transport
- * key.
+ * key. With the word `store` no presentation is made; limpet_store is asked for the
+ * first store of each, for a run that counts those calls.
  *
  * Prints a line for each such call, in order: what is presented, and the place
  * of the wrong byte. Before each call the card is set back, so that it is the
@@ -38,6 +39,23 @@ static void command(const uint8_t *bytes, size_t length, unsigned due)
     }
 }
 
+static bool asks_store;
+
+/* A presentation; or its first store, of which there is one whatever is presented. */
+static void presentation(const uint8_t *bytes, size_t length, unsigned due)
+{
+    uint16_t address;
+    uint8_t value, given;
+
+    if (!asks_store) {
+        command(bytes, length, due);
+    } else if (limpet_store((const struct limpet_card *)card, area, sizeof area, bytes, length, c1_block, sizeof c1_block,
+                            0, &address, &value, &given) != LIMPET_OK || given != 1 || value != 99) {
+        fprintf(stderr, "verifies: the first store of a presentation does not lower 100 tries\n");
+        exit(EXIT_FAILURE);
+    }
+}
+
 static void issue(size_t pin_length)
 {
     if (limpet_issue((struct limpet_card *)card, area, sizeof area, c1_key, sizeof c1_key, 100,
@@ -64,14 +82,15 @@ static void present(const char *name, const uint8_t *head, const uint8_t *value,
             printf("%s %zu right -\n", name, length);
         }
         memcpy(card, kept, sizeof card);
-        command(sent, HEAD + length, place < length ? 0x63CF : 0x9000);
+        presentation(sent, HEAD + length, place < length ? 0x63CF : 0x9000);
     }
 }
 
 /* A step before a presentation: it has a line too, and its count is of no interest. */
 static void step(const uint8_t *bytes, size_t length)
 {
-    printf("step - - -\n");
+    if (!asks_store)
+        printf("step - - -\n");
     command(bytes, length, 0x9000);
 }
 
@@ -119,16 +138,22 @@ static void present_code(const char *name, uint8_t ins, size_t data, bool is_rea
         if (bit >= 0)
             code[bit / 8] ^= (uint8_t)(1 << bit % 8);
         memcpy(card, kept, sizeof card);
-        command(sent, length, bit < 0 ? 0x9000 : 0x6988);
+        presentation(sent, length, bit < 0 ? 0x9000 : 0x6988);
         if (bit >= 0)
             code[bit / 8] ^= (uint8_t)(1 << bit % 8);
     }
 }
 
-int main(void)
+int main(int count, char **words)
 {
     static const uint8_t admin[] = { 0x00, 0x20, 0x00, 0x00 };
     static const uint8_t user[] = { 0x00, 0x20, 0x00, 0x01 };
+
+    asks_store = count == 2 && strcmp(words[1], "store") == 0;
+    if (count != 1 && !asks_store) {
+        fputs("usage: verifies [store]\n", stderr);
+        return 2;
+    }
 
     for (size_t length = 6; length <= LONGEST; length += 5) {
         issue(length);

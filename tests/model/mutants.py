@@ -4,7 +4,8 @@ Each entry changes one place of the model, as someone might misread the papers. 
 scripts; a test passes when its output differs from the true model's. So a program with that error would be caught by
 tests/model/compare.py within the lines printed at the end. Errors in calls that a script cannot make, or in bytes that it
 cannot see, are put before the self-test instead. Errors in a card written as lines are put before the changed texts that
-tests/texts gives to the library, and before the self-test too; and so are those in texts that are converted.
+tests/texts gives to the library, and before the self-test too; and so are those in texts that are converted. Errors in what a loss of
+power may leave are put before the self-test: tests/cuts shows that errors of a library are noticed.
 """
 
 import argparse
@@ -26,7 +27,7 @@ LINES = 2000
 TEXTS = 16000
 CONVERTED = 2000
 
-CARD, SCRIPT, TEXT, SELFTEST = "card.py", "script.py", "text.py", "selftest.py"
+CARD, SCRIPT, TEXT, CUTS, SELFTEST = "card.py", "script.py", "text.py", "cuts.py", "selftest.py"
 
 # Places of the card that several errors change.
 RESET = "    card.current = None\n    card.folder = ROOT\n    card.challenge = NO_CHALLENGE\n    card.waiting"
@@ -1289,6 +1290,38 @@ IN_CONVERSIONS = (
 TEXT_SELFTESTS = ("test_text_example", "test_text_fields", "test_text_folders", "test_text_lines", "test_text_sizes", "test_text_calls")
 CONVERSION_SELFTESTS = ("test_text_conversions",)
 
+# Errors in what a loss of power may leave, of which the first part asks for something else and the second lets something pass.
+IN_CUTS = (
+    (CUTS, "        self.first.append((tries_at(number), before.tries - 1))\n", "        self.first.append((tries_at(number), before.tries))\n",
+     "tries not lowered"),
+    (CUTS, "        if agrees:\n            self.first", "        if True:\n            self.first", "tries restored where the comparison does not agree"),
+    (CUTS, "        if name == \"VERIFY\" and frame.case == 3 and compared:\n", "        if name == \"VERIFY\" and compared:\n", "a query that presents"),
+    (CUTS, "                return TRANSPORT, self.sw != 0x6988\n", "                return TRANSPORT, self.sw == 0x9000\n",
+     "a right code that is refused later, taken for a wrong one"),
+    (CUTS, "            if card.transport.tries > 0 and card.challenge != cards.NO_CHALLENGE:\n", "            if card.transport.tries > 0:\n",
+     "a code presented without a challenge"),
+    (CUTS, "        if name.endswith(WITH_A_CODE) and has_good_p(name, frame) and", "        if name.endswith(WITH_A_CODE) and",
+     "a code presented with a bad P"),
+    (CUTS, "    return frame.case == 3 and len(frame.data) > cards.CODE_SIZE\n", "    return frame.case == 3\n", "a code presented with Lc 04"),
+    (CUTS, "            if file.records == file.count:\n                kept", "            if False:\n                kept", "an oldest that stays"),
+    (CUTS, "            self.last_store = (tries_at(USER), limit)\n", "", "tries of a reload anywhere among its stores"),
+    (CUTS, "            self.last_store = (NUMBER_AT, len(after.folders))\n", "", "a directory that is counted before it is there"),
+    (CUTS, "        self.last_store = (COUNT_AT, len(after.files))\n", "", "a file that is counted before it is there"),
+    (CUTS, "            if counts[address] > self.places.get(address, 0):\n", "            if address not in self.places:\n", "stores made twice"),
+    (CUTS, "            if counts[address] > self.places.get(address, 0):\n", "            if False:\n", "stores made anywhere"),
+    (CUTS, "            if rest != self.deed_stores:\n", "            if sorted(rest) != sorted(self.deed_stores):\n", "an update in any order"),
+    (CUTS, "                if view != self.fixed[done]:\n", "                if view not in self.fixed:\n", "a presentation's stores in any order"),
+    (CUTS, "            at = next((at for at in range(stage, len", "            at = next((at for at in range(len", "back from the new to the old"),
+    (CUTS, "            if at > stage + 1 and not self.may_skip:\n", "            if False:\n", "tries of a reload with its value"),
+    (CUTS, "            if done == len(self.first) and at != 0 and len(self.stages) > 1:\n", "            if False:\n", "done before the first store"),
+    (CUTS, "                if not new <= found:\n", "                if False:\n", "a byte of an update that is old again"),
+    (CUTS, "                if done == len(self.first) and found:\n", "                if False:\n", "a byte of an update that is new before the first store"),
+    (CUTS, "        if any(byte not in (old, new) for", "        if any(False for", "a byte of an update that is neither old nor new"),
+    (CUTS, "        if due != total + 1:\n", "        if False:\n", "a last run that is missing"),
+    (CUTS, "        if runs[-1][2] != self.final:\n", "        if False:\n", "a command that ends before it is done"),
+)
+CUT_SELFTESTS = ("test_cut_presentations", "test_cut_pins", "test_cut_files", "test_cut_judged")
+
 # Errors with these words change nothing that a script can show, and must not be noticed. They stand in the list because
 # they name what only proofs, and not scripts, can hold the program to.
 CANNOT_SHOW = "no script can tell"
@@ -1313,14 +1346,14 @@ def changed(name, old, new):
 
 
 def mutated(file, old, new):
-    """Card, its lines, script program and self-test with one place of one source changed, by the names of their sources."""
+    """Card, its lines, script program, cuts and self-test with one place of one source changed, by the names of their sources."""
     modules = {}
-    true_modules = {name: sys.modules[name] for name in ("card", "script", "text")}
-    for name in (CARD, TEXT, SCRIPT, SELFTEST):
+    true_modules = {name: sys.modules[name] for name in ("card", "script", "text", "cuts")}
+    for name in (CARD, TEXT, SCRIPT, CUTS, SELFTEST):
         code = changed(name, old, new) if name == file else unchanged(name)
         modules[name] = types.ModuleType(name[:-3])
         try:
-            sys.modules.update({known[:-3]: modules[known] for known in (CARD, TEXT, SCRIPT) if known in modules and known != name})
+            sys.modules.update({known[:-3]: modules[known] for known in (CARD, TEXT, SCRIPT, CUTS) if known in modules and known != name})
             exec(code, modules[name].__dict__)
         finally:
             sys.modules.update(true_modules)
@@ -1449,7 +1482,8 @@ def main():
         else:
             failed += 1
             print("FAILED: %s: not noticed by %d texts to convert" % (error, len(converted)))
-    for mutants, names in ((IN_CODES, CODE_SELFTESTS), (UNSHOWN, SELFTESTS), (IN_LINES + IN_CALLS, TEXT_SELFTESTS), (IN_CONVERSIONS, CONVERSION_SELFTESTS)):
+    for mutants, names in ((IN_CODES, CODE_SELFTESTS), (UNSHOWN, SELFTESTS), (IN_LINES + IN_CALLS, TEXT_SELFTESTS), (IN_CONVERSIONS, CONVERSION_SELFTESTS),
+                           (IN_CUTS, CUT_SELFTESTS)):
         for file, old, new, error in mutants:
             if fails_selftest(mutated(file, old, new)[SELFTEST], names):
                 passed += 1

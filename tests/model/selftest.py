@@ -1,4 +1,4 @@
-"""Checks the model itself against document 01 and requests R-1, R-2 and R-4 to R-9 of document 02.
+"""Checks the model itself against document 01 and requests R-1, R-2 and R-4 to R-10 of document 02.
 
 The expected answers are worked out from the papers, and codes by the openssl command line.
 """
@@ -8,6 +8,7 @@ import sys
 
 import card as cards
 import codes
+import cuts
 import generate
 import script
 import text as texts
@@ -2835,6 +2836,152 @@ def test_text_generated():
     check("both are met often", (accepted > 300, refused > 1000), (True, True))
 
 
+def cut_of(session, sent):
+    return cuts.Cut(session.program.card, session.program.area, bytes.fromhex(sent.replace(" ", "")), bytes.fromhex(RANDOM))
+
+
+def tries_of(views, number):
+    return [view.credentials[number].tries for view in views]
+
+
+def test_cut_presentations():
+    """The tries of device key, admin PIN, user PIN and transport key lie at 17, 36, 55 and 74; those left, before the limit."""
+    session = Session()
+    wrong, right, query = "0020000106 313131313131", "0020000106 313233343536", "00200001"
+    cut = cut_of(session, wrong)
+    check("a wrong PIN is lowered", (cut.first, tries_of(cut.fixed, cuts.USER), len(cut.stages)), ([(55, 2)], [3, 2], 1))
+    cut = cut_of(session, right)
+    check("a right PIN with full tries", (cut.first, tries_of(cut.fixed, cuts.USER)), ([(55, 2), (55, 3)], [3, 2, 3]))
+    session.send(wrong)
+    cut = cut_of(session, right)
+    check("a right PIN with a try gone", (cut.first, tries_of(cut.fixed, cuts.USER)), ([(55, 1), (55, 3)], [2, 1, 3]))
+    check("nothing is compared", [cut_of(session, sent).first for sent in (
+        query, "0020000106 31323334353A", "0020000206 313233343536", "0020000105 3132333435", "0082000010" + CIPHERTEXT)], [[]] * 5)
+    session.send(wrong)
+    session.send(wrong)
+    check("blocked", (cut_of(session, right).first, cut_of(session, wrong).first), ([], []))
+    session.send("0084000010")
+    check("a right cryptogram", cut_of(session, "0082000010" + CIPHERTEXT).first, [(17, 127), (17, 128)])
+    check("a wrong one", cut_of(session, "0082000010" + RANDOM).first, [(17, 127)])
+    check("the admin PIN", cut_of(session, "0020000008 3837363534333231").first, [(36, 4), (36, 5)])
+    check("a code that is right, and no file", cut_of(session, coded("B0 8100", le="01")).first, [(74, 9), (74, 10)])
+    check("a wrong code", cut_of(session, "04B0810004 00000000 01").first, [(74, 9)])
+    check("a code of another form", [cut_of(session, sent).first for sent in ("04D6810004 00000000", "04B0800004 00000000 01")], [[], []])
+    session.send(query)
+    check("a code without a challenge", cut_of(session, "04B0810004 00000000 01").first, [])
+
+
+def test_cut_pins():
+    session = Session()
+    session.user()
+    session.send("0020000106 313131313131")
+    session.admin()
+    check("CHANGE without its right", len(cut_of(session, "0024010106 363636363636").stages), 1)
+    cut = cut_of(session, "0024010008 3636363636363636")
+    check("CHANGE: the old or the new", [view.credentials[cuts.ADMIN].value for view in cut.stages], [b"87654321", b"66666666"])
+    cut = cut_of(session, "002C020106 363636363636")
+    check("RELOAD: the value, then the tries", [view.credentials[cuts.USER] for view in cut.stages],
+          [(b"123456", 3, 2), (b"666666", 3, 2), (b"666666", 3, 3)])
+    check("and they are its last store", (cut.last_store, 55 in cut.places, 36 in cut.places, 563 in cut.places), ((55, 3), True, False, True))
+
+
+def test_cut_files():
+    """Entries lie from 76 on, 12 bytes each, the number of files at 268, that of directories at 281, the area from 581 on."""
+    session = device_session()
+    cut = cut_of(session, "80E0010105 28 0004 00 00")
+    check("a file: none or whole", [view.files for view in cut.stages], [(), ((0x0101, bytes.fromhex("2800040000"), 0, 0, 0x3F00, bytes(4)),)])
+    check("its places", (cut.last_store, sorted(cut.places)), ((268, 1), list(range(76, 88)) + [268, 581, 582, 583, 584]))
+    cut = cut_of(session, "80E0510105 38 0000 C1 00")
+    check("a directory: none or whole", [view.folders for view in cut.stages], [(), ((0x5101, 0xC1),)])
+    check("its places too", (cut.last_store, sorted(cut.places)), ((281, 1), [269, 270, 271, 281]))
+    session.send("80E0010105 28 0004 00 00")
+    session.send("80E0010205 2E 0202 00 04")
+    session.send("80E0010305 2C 0006 00 00")
+    cut = cut_of(session, "00D6810102 A1A2")
+    check("an update lists every byte", cut.deed_stores, [(582, 0xA1), (583, 0xA2)])
+    check("and all new at last", [view.files[0].contents.hex() for view in cut.stages], ["00000000", "00a1a200"])
+    a, b, c = b"\xA1\xA2", b"\xB1\xB2", b"\xC1\xC2"
+    lists = []
+    for record in (a, b, c):
+        session.send("0084000010")
+        sent = coded("E2 0010", record.hex().upper())
+        cut = cut_of(session, sent)
+        lists.append([view.files[1].contents for view in cut.stages])
+        check("the code comes before", cut.first, [(74, 9), (74, 10)])
+        session.send(sent)
+    check("an append: the old list, when full that without its oldest, the new list", lists,
+          [[(), (a,)], [(a,), (b, a)], [(b, a), (b,), (c, b)]])
+    cut = cut_of(session, "00E2001802 B1B2")
+    check("an append to 2C", [(view.files[2].held, view.files[2].contents) for view in cut.stages], [(0, ()), (3, (b,))])
+    check("its record's places", sorted(place for place in cut.places if place >= 581), [589, 590, 591])
+    check("6A84 makes no store", (cut_of(session, "00E2001806 B1B2B3B4B5B6").first, len(cut_of(session, "00E2001806 B1B2B3B4B5B6").stages)), ([], 1))
+
+
+def test_cut_judged():
+    """What is not allowed is said to be wrong, and what is allowed is not."""
+    def found(cut, *views):
+        return cut.wrong_runs(len(views) - 1, [(done, done, view) for done, view in enumerate(views)]) is None
+
+    session = device_session()
+    session.admin()
+    session.send("80E0010205 2E 0202 00 00")
+    session.send("80E0010305 28 0002 00 00")
+    for record in ("A1A1", "A2A2"):
+        session.send("00E2001002" + record)
+
+    cut = cut_of(session, "0020000106 313131313131")
+    three, two = cut.fixed
+    check("a wrong presentation", [found(cut, three, two), found(cut, two, two), found(cut, three, three), found(cut, three, two, three),
+                                   found(cut, three)], [True, False, False, False, False])
+    check("a number of stores left out", [cut.wrong_runs(total, [(0, 0, three), (first, total, two)]) is None for total, first in (
+        (1, 1), (2, 2))] + [cut.wrong_runs(2, [(0, 0, three), (1, 1, two)]) is None], [True, False, False])
+    cut = cut_of(session, "0020000106 313233343536")
+    check("a right presentation", [found(cut, three, two, three), found(cut, three, three), found(cut, three, three, three), found(cut, three, two)],
+          [True, False, False, False])
+
+    cut = cut_of(session, "0024010008 3636363636363636")
+    old, new = cut.stages
+    torn = cuts.with_credential(old, cuts.ADMIN, value=b"67654321")
+    low = cuts.with_credential(old, cuts.USER, tries=2)
+    check("a PIN", [found(cut, old, old, new, new), found(cut, old, new), found(cut, old, torn, new), found(cut, old, new, old, new), found(cut, new, new),
+                    found(cut, old, old), found(cut, old, low, new), found(cut, old, None, new)], [True, True] + [False] * 6)
+    cut = cut_of(session, "002C020106 363636363636")
+    check("RELOAD with full tries", len(cut.stages), 2)
+    session.send("0020000106 313131313131")
+    cut = cut_of(session, "002C020106 363636363636")
+    old, half, new = cut.stages
+    early = cuts.with_credential(old, cuts.USER, tries=3)
+    check("RELOAD with a try gone", [found(cut, old, half, new), found(cut, old, new), found(cut, old, early, new), found(cut, old, half, old, new)],
+          [True, False, False, False])
+
+    cut = cut_of(session, "00E2001002 A3A3")
+    old, less, new = cut.stages
+    over = cuts.with_file(old, 0, contents=(b"\xA2\xA2", b"\xA3\xA1"))
+    none = cuts.with_file(old, 0, held=0, newest=0, contents=())
+    check("an append to a full file", [found(cut, old, less, new), found(cut, old, new), found(cut, old, over, new), found(cut, old, less, none, new),
+                                       found(cut, old, less, old, new), found(cut, old, new, less, new)], [True, True, False, False, False, False])
+
+    cut = cut_of(session, "00D6830002 B1B2")
+    old, new = cut.stages
+    first, last, other = [cuts.with_update(old, cut.update, data) for data in (b"\xB1\x00", b"\x00\xB2", b"\xB1\xB1")]
+    check("an update", [found(cut, old, first, new), found(cut, old, last, new), found(cut, old, other, new), found(cut, old, first, last, new),
+                        found(cut, first, new), found(cut, old, first)], [True, True, False, False, False, False])
+    check("its stores", [cut.wrong_stores(stores) is None for stores in (
+        [(585, 0xB1), (586, 0xB2)], [(586, 0xB2), (585, 0xB1)], [(585, 0xB1)], [(585, 0xB1), (585, 0xB1), (586, 0xB2)], [(585, 0xB1), (586, 0xB3)])],
+          [True, False, False, False, False])
+
+    cut = cut_of(session, "80E0010405 28 0001 00 00")
+    entry = [(76 + 2 * 12 + at, 0) for at in range(12)]
+    check("the stores of a new file", [cut.wrong_stores(stores) is None for stores in (
+        [(587, 0)] + entry + [(268, 3)], [(268, 3), (587, 0)] + entry, [(587, 0)] + entry + entry + [(268, 3)], [(588, 0)] + entry + [(268, 3)],
+        [(587, 0)] + entry + [(268, 2)])], [True, False, False, False, False])
+    old, new = cut.stages
+    half = new._replace(files=new.files[:2] + (new.files[2]._replace(created=bytes(5)),))
+    check("a new file", [found(cut, old, new), found(cut, old, half, new), found(cut, old, old), found(cut, new, new)], [True, False, False, False])
+    cut = cut_of(session, "00B2011400")
+    check("a read stores nothing", [cut.wrong_stores(stores) is None for stores in ([], [(563, 0)])], [True, False])
+
+
 def test_generated():
     check("a seed always gives the same script", generate.script_of(7, 500), generate.script_of(7, 500))
     check("seeds differ", generate.script_of(7, 500) == generate.script_of(8, 500), False)
@@ -2879,8 +3026,8 @@ def main():
                  test_text_folders, test_text_lines, test_text_sizes, test_text_calls, test_text_generated, test_text_conversions,
                  test_text_converted, test_framing, test_files, test_read_to_end,
                  test_response, test_rights, test_credentials, test_code, test_codes_served, test_codes_refused, test_codes_order,
-                 test_codes_tries, test_codes_challenge, test_codes_message, test_codes_rights, test_codes_fetched, test_grammar,
-                 test_generated):
+                 test_codes_tries, test_codes_challenge, test_codes_message, test_codes_rights, test_codes_fetched,
+                 test_cut_presentations, test_cut_pins, test_cut_files, test_cut_judged, test_grammar, test_generated):
         test()
     print("%d passed, %d failed" % (passed, failed))
     return 1 if failed else 0

@@ -39,6 +39,9 @@ CHANGES_A_CARD = 60
 # The place of the session's line, behind those of the credentials.
 SESSION = 4
 
+# The journal of R-10 at a card's end: 00 in a sound card, and in no text.
+JOURNAL_SIZE = 18
+
 # ---------------------------------------------------------------------------------------------------------------------
 # Records of the stream
 # ---------------------------------------------------------------------------------------------------------------------
@@ -77,7 +80,8 @@ def card_bytes(card):
             + folders.ljust(4 * 3, b"\x00") + bytes((len(card.folders),))
             + bytes([credential.held for credential in credentials[:3]]) + bytes((current,))
             + card.challenge.ljust(16, b"\x00") + bytes((len(card.challenge), place_of(card, card.folder)))
-            + struct.pack(">BH", card.mode, len(card.waiting)) + card.waiting.ljust(cards.MOST_WAITING, b"\x00"))
+            + struct.pack(">BH", card.mode, len(card.waiting)) + card.waiting.ljust(cards.MOST_WAITING, b"\x00")
+            + bytes(JOURNAL_SIZE))
 
 
 def contents_of(card, area):

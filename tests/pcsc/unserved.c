@@ -42,6 +42,21 @@ uint8_t limpet_reset(struct limpet_card *card, const uint8_t *area, size_t area_
     return resets++ == 0 ? LIMPET_OK : LIMPET_UNSOUND; /* the first is that of putting it in */
 }
 
+uint8_t limpet_store(const struct limpet_card *card, const uint8_t *area, size_t area_len,
+                     const uint8_t *command, size_t command_len, const uint8_t *random, size_t random_len,
+                     size_t n, uint16_t *address, uint8_t *value, uint8_t *given)
+{
+    (void)card, (void)area, (void)area_len, (void)command, (void)command_len, (void)random, (void)random_len, (void)n;
+    *address = *value = *given = 0;
+    return LIMPET_UNSOUND;
+}
+
+uint8_t limpet_recover(struct limpet_card *card, const uint8_t *area, size_t area_len)
+{
+    (void)card, (void)area, (void)area_len;
+    return LIMPET_UNSOUND;
+}
+
 uint8_t limpet_to_text(const struct limpet_card *card, const uint8_t *area, size_t area_len,
                        uint8_t *text, size_t text_len, size_t *text_count)
 {

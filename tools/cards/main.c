@@ -1,4 +1,4 @@
-/* Cards kept in files: made, run, shown, checked and converted. --help says how it is called. */
+/* Cards kept in files: made, run, cut, shown, checked and converted. --help says how it is called. */
 #include <signal.h>
 #include <stdio.h>
 #include <stdlib.h>
@@ -6,6 +6,7 @@
 
 #include "card.h"
 #include "convert.h"
+#include "cut.h"
 #include "ends.h"
 #include "form.h"
 #include "process.h"
@@ -25,13 +26,13 @@ static const char usage[] =
     "                           TRANSPORT_KEY LIMIT\n"
     "       tools/card new CARD SCRIPT\n"
     "       tools/card run CARD SCRIPT\n"
+    "       tools/card cut [--keep] CARD SCRIPT STORES\n"
     "       tools/card show CARD\n"
     "       tools/card check CARD\n"
     "       tools/card convert --to-new|--to-old [--into FOLDER] [--dry-run] CARD...\n"
     "\n"
-    "CARD is a file with a whole card in it: keys, PINs, tries, session, directories and\n"
-    "files. docs/CARD-FILE.md says what stands where. Keys and PINs stand there as they are,\n"
-    "so the file is for its owner alone (mode 600); one that others can open is warned of.\n"
+    "CARD is a file with a whole card in it (docs/CARD-FILE.md). Keys and PINs stand there as\n"
+    "they are, so it is for its owner alone (mode 600); one that others can open is warned of.\n"
     "\n"
     "new    makes a card, and the file with it. A file that is there is never\n"
     "       overwritten. The values are those of an ISSUE line: each key as 32 upper-case\n"
@@ -39,24 +40,26 @@ static const char usage[] =
     "       come with the answer; so it is without a mode) or 1 (they wait for GET\n"
     "       RESPONSE). With - in place of a key or a PIN it is read from standard input,\n"
     "       one a line; at a terminal each is asked for twice, and not shown. Words of a\n"
-    "       command line stay in the shell's history and in the scrollback, and others on\n"
-    "       the machine can see them; not so what is typed at these questions, or piped.\n"
+    "       command line stay in the shell's history and in the scrollback, and others can\n"
+    "       see them; not so what is typed at these questions, or piped.\n"
     "       Or a script makes the card: an ISSUE line, and CMD and RESET lines that\n"
     "       prepare it. Where one of its lines is not served, no card is made; where the\n"
     "       card refuses one by a status word, that is said, and the card is made.\n"
     "run    runs the CMD and RESET lines of a script on the card, and prints for each\n"
     "       line what ./limpet prints (./limpet --help). The session goes on where the\n"
-    "       last run left it: rights, current directory and file, challenge, waiting\n"
-    "       bytes; RESET ends it, and leads to the root. The card is stored before an\n"
-    "       answer is printed, so what was answered is in CARD, however the run ends. A line\n"
-    "       that is sent by a pipe or a terminal is stored and answered at once; the lines\n"
-    "       of a file are stored in blocks. No line is run on a card that cannot be stored.\n"
-    "       An ISSUE line ends the run: what follows it is for another card, and could\n"
-    "       block the PINs of this one. Two runs on one card wait for each other, up to 5\n"
-    "       seconds.\n"
+    "       last run left it; RESET ends it. The card is stored before an answer is\n"
+    "       printed, so what was answered is in CARD, however the run ends: a line of a\n"
+    "       pipe or a terminal at once, the lines of a file in blocks. No line is run on a\n"
+    "       card that cannot be stored. An ISSUE line ends the run: what follows it is for\n"
+    "       another card, and could block the PINs of this one. Two runs on one card wait\n"
+    "       for each other, up to 5 seconds.\n"
+    "cut    shows what a loss of power leaves. It runs such a script, loses the power after\n"
+    "       so many single stores in all (docs/POWER.md), recovers the card, and prints what\n"
+    "       is left of each line, and what is found of the one that was cut. CARD stays as it\n"
+    "       is; with --keep it has the card that is found.\n"
     "show   prints form, tries left, mode, session, free space, and the root and each\n"
-    "       directory with its files, and which of them are current. No key, PIN,\n"
-    "       challenge or contents, and of waiting bytes only how many there are.\n"
+    "       directory with its files, and which are current. No key, PIN, challenge or\n"
+    "       contents, and of waiting bytes only how many there are.\n"
     "check  says whether the file is accepted, and where not, at which line and why, as\n"
     "       far as that can be told; and which form it has. The old form is that of before\n"
     "       there were directories (docs/CARD-FILE.md): show and check take it, run does not.\n"
@@ -65,7 +68,6 @@ static const char usage[] =
     "       stays, and its card is put into FOLDER under the same name, where no file is\n"
     "       ever overwritten. What is wrong with one file keeps no other from it: a table\n"
     "       tells of each what was done, or why not. --dry-run prints it and writes nothing.\n"
-    "       Where it was ended early, calling it again does the rest.\n"
     "\n"
     "SCRIPT may be a pipe, and - is standard input. CARD is replaced as a whole, so\n"
     "whatever goes wrong it holds the card of before or the new one.\n"
@@ -74,12 +76,10 @@ static const char usage[] =
     "answered and convert has done, unless the message says otherwise; 1 from check where\n"
     "CARD is refused, and from convert where one was refused or failed; 2 for bad usage;\n"
     "3 from run where the card was stored, but some lines were not run (their outcome is\n"
-    "not 0). Ctrl-C, SIGTERM and SIGHUP end run after the present line, and convert after\n"
-    "the present file.\n"
+    "not 0). Ctrl-C, SIGTERM and SIGHUP end run and convert after the present line or file.\n"
     "\n"
     "  tools/card new box.card - 128 - 5 - 3 - 10    asks for the keys and the PINs\n"
     "  tools/card new box.card examples/box.script   the box of docs/STANDBY.md\n"
-    "  tools/card show box.card\n"
     "  tools/card convert --to-new --dry-run shelf/*.card\n";
 
 static int show_usage(void)
@@ -160,7 +160,7 @@ static int new_card(int words, char **word)
     return good ? EXIT_SUCCESS : EXIT_FAILURE;
 }
 
-/* ------------------------------------------------------------ run, show, check, convert */
+/* ------------------------------------------------------------ run, cut, show, check, convert */
 
 /* Opens a file that has to be there. */
 static bool open_card(struct store *s, const char *path, enum use use)
@@ -202,6 +202,22 @@ static int run_card(int words, char **word)
     store_close(&s);
     end_by_signal("what was answered is stored");
     return status;
+}
+
+static int cut_card(int words, char **word)
+{
+    struct loss l;
+    struct store s;
+    bool good;
+
+    if (!read_loss(words, word, &l))
+        return show_usage();
+    signal(SIGPIPE, SIG_IGN); /* a table that nobody takes is an error like others */
+    if (!open_card(&s, l.card, l.keep ? TO_CHANGE : TO_LOOK))
+        return EXIT_FAILURE;
+    good = store_load(&s) && lose_power(&s, &l);
+    store_close(&s);
+    return good ? EXIT_SUCCESS : EXIT_FAILURE;
 }
 
 /* By the library alone. The old form is for show and check to tell of, and for convert. */
@@ -281,7 +297,7 @@ static bool asks_for_help(const char *word)
 static int no_part(int argc, char **argv)
 {
     if (argc < 2)
-        return bad_usage("nothing says what to do: new, run, show, check or convert");
+        return bad_usage("nothing says what to do: new, run, cut, show, check or convert");
     say(asks_for_help(argv[1]) ? "%s stands alone" : "there is no part %s", argv[1]);
     return show_usage();
 }
@@ -292,7 +308,8 @@ int main(int argc, char **argv)
         const char *word;
         int (*run)(int words, char **word);
     } parts[] = {
-        { "new", new_card }, { "run", run_card }, { "show", show_file }, { "check", check_file }, { "convert", convert_cards }
+        { "new", new_card },   { "run", run_card },     { "cut", cut_card },
+        { "show", show_file }, { "check", check_file }, { "convert", convert_cards },
     };
     int status;
 

@@ -77,6 +77,9 @@ files = record {
   record-grows = λ κs a x y. returned;
   record-is-record = λ κs a x y. returned;
   record-has-room = λ κs a x y. returned;
+  record-next-start = λ κs a x y. bounded;
+  record-lead = λ κs a x y. bounded;
+  record-after-append = λ κs a x y. returned;
   record-read = λ κs a x y p q i. let z = reading p q i in (z .0, (tt, (tt, (tt, (z .1, tt)))));
   record-update = λ κs a x y p q i. let z = writing p q i in (z .0, (tt, (z .1, (tt, (tt, tt)))));
   record-append = λ κs a x y p q i. let z = file-writing p q i in (z .0, (tt, (z .1, (tt, tt))));

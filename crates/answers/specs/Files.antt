@@ -51,6 +51,9 @@ pub record Files : Type 0 where
   pub record-grows : OneAnswer files.record.grows.ended files.record.grows.Reads.Learnt
   pub record-is-record : OneAnswer files.record.is_record.ended files.record.is_record.Reads.Learnt
   pub record-has-room : OneAnswer files.record.has_room.ended files.record.has_room.Reads.Learnt
+  pub record-next-start : OneAnswer files.record.next_start.ended files.record.next_start.Reads.Learnt
+  pub record-lead : OneAnswer files.record.lead.ended files.record.lead.Reads.Learnt
+  pub record-after-append : OneAnswer files.record.after_append.ended files.record.after_append.Reads.Learnt
   pub record-read : OneAnswer files.record.read.ended files.record.read.Reads.Learnt
   pub record-update : OneAnswer files.record.update.ended files.record.update.Reads.Learnt
   pub record-append : OneAnswer files.record.append.ended files.record.append.Reads.Learnt

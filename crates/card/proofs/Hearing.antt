@@ -2,15 +2,16 @@
 -- Assumes nothing.
 use Prim.Native.Nat.{ℕ}
 use mathlib.Core.Bool.{Bool, cond, _&&_}
-use mathlib.Core.List.{[], _∷_}
+use mathlib.Core.List.{List, [], _∷_}
 use mathlib.Core.Logic.{by-cases}
 use mathlib.Core.Path.{_≡_, sym, ap, _∙_}
 use native.Mathlib.Decide.{ℕ-discrete}
 use lib.Dec.{eqb}
 use borrow.Author.Tests.{eq-eqb, ne-eqb}
+use Rattle.codes.specs.Code.{mac, code}
 use Rattle.rules.specs.declared.Card.{Card}
-use Rattle.rules.specs.Words.{unless, orElse, first}
-use Rattle.rules.specs.State.{transport, credential, login, logins, challenge, withCredential}
+use Rattle.rules.specs.Words.{unless, orElse, first, same, filled}
+use Rattle.rules.specs.State.{transport, valueOf, credential, login, logins, challenge, withCredential}
 use Rattle.rules.specs.Frame.{Command, frameSw, classSw}
 use Rattle.rules.specs.Pins.{triesSw}
 use Rattle.rules.specs.Device.{challengeSw}
@@ -73,11 +74,12 @@ module _ (front : ℕ) (c : Card) (k : Command) (r : Carried) where
           sw-is = ap (λ (x : Carried). x .sw) a ∙ is ∙ rw code-is (refused-early front _ _ _ m);
         }
 
-    pub presented-code : (sw : ℕ) → sw ≡ orElse front (orElse (triesSw (login transport c)) (challengeSw (challenge c))) → sw ≡ 0x9000
+    pub presented-code : valueOf (credential c 3) ≡ credential c 3 .value → (sw : ℕ) → sw ≡ orElse front (orElse (triesSw (login transport c)) (challengeSw (challenge c))) → sw ≡ 0x9000
         → (right : Bool) → right ≡ codeGiven c (k .covered) (k .code)
         → r ≡ carried (withCredential c 3 (keyAfter (credential c 3) right)) (unless right 0x6988) 0 0 → Hears front c k r
     unfolding credentialsAfter
-    presented-code sw is n right f a =
+    presented-code whole sw is n right given a =
+        let f : right ≡ agrees (logins c) (challenge c) k = given ∙ ap (λ (v : List ℕ). same (code (mac v (filled (challenge c)) (k .covered))) (k .code)) (sym whole) in
         let g : orElse front (orElse (triesSw (login transport c)) (challengeSw (challenge c))) ≡ 0x9000 = sym is ∙ n in
         let w = passed (front ∷ triesSw (login transport c) ∷ challengeSw (challenge c) ∷ []) g in
         record {

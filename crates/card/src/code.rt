@@ -1,12 +1,13 @@
 // Codes on the bus (R-9): the five commands that may have one, P and case before it, and its check.
 ghost use mathlib.Core.Path.{_≡_};
+ghost use mathlib.Core.Bool.{_&&_};
 ghost use mathlib.Core.List.{[]};
 ghost use Rattle.rules.specs.Words.{unless, orElse, first};
-ghost use Rattle.rules.specs.State.{valueOf, credential, withCredential};
+ghost use Rattle.rules.specs.State.{valueOf, credential, logins, challenge, withCredential};
 ghost use Rattle.rules.specs.Frame.{frameSw, classSw};
 ghost use Rattle.rules.specs.Effect.{answers};
 ghost use Rattle.rules.specs.List.{rule};
-ghost use Rattle.rules.specs.Code.{keyAfter};
+ghost use Rattle.rules.specs.Code.{presentsCode, keyAfter};
 ghost use Rattle.card.specs.Head.{codedOf, commandOf};
 ghost use Rattle.card.specs.Carried.{quietly};
 ghost use Rattle.card.specs.Coded.{takesCode, front, codeGiven, Hears, Opens};
@@ -16,6 +17,8 @@ use crate::binary::binary_p_sw;
 use crate::device::challenge_block;
 use crate::device::challenge_sw;
 use crate::frame::WITH_CODE;
+use crate::frame::class_sw;
+use crate::frame::frame_sw;
 use crate::frame::read_case_sw;
 use crate::frame::write_case_sw;
 use crate::pins::same;
@@ -29,12 +32,13 @@ use crate::state::with_tries;
 use crate::words::or_else;
 use crate::words::unless;
 use codes::mac;
+use files::and_or::both;
 use rules::Card;
 use rules::Ins;
 use rules::TRANSPORT;
 
 // Those that read, update and append.
-fn takes_code(ins: Ins) -> bool
+pub fn takes_code(ins: Ins) -> bool
     ensures { λ r. ⌜ r ≡ takesCode (rule ins) ⌝ }
 {
     match ins {
@@ -56,7 +60,7 @@ fn takes_code(ins: Ins) -> bool
 }
 
 // P and case before the code; the others have their own checks in their own place.
-fn front_sw(ins: Ins, h: Header, given: &[u8], code: &[u8]) -> u16
+pub fn front_sw(ins: Ins, h: Header, given: &[u8], code: &[u8]) -> u16
     ensures { λ r. ⌜ r ≡ first (front ins (codedOf h (now (given .entry)) (now (code .entry)) [])) ⌝ }
 {
     let binary = binary_p_sw(h);
@@ -82,9 +86,21 @@ fn front_sw(ins: Ins, h: Header, given: &[u8], code: &[u8]) -> u16
     }
 }
 
-// What is given is the code of what it covers. The transport key has all of its sixteen bytes.
-fn is_code(card: Card, covered: &[u8], code: &[u8]) -> bool
-    requires { ⌜ valueOf (credential card 3) ≡ credential card 3 .value ⌝ }
+// A code is presented: the command may have one and has one, and every check up to the comparison passes.
+pub fn presents_code(ins: Ins, card: Card, h: Header, given: &[u8], code: &[u8]) -> bool
+    ensures { λ r. ⌜ r ≡ (takesCode (rule ins) && presentsCode (front ins (codedOf h (now (given .entry)) (now (code .entry)) [])) (logins card) (challenge card) (codedOf h (now (given .entry)) (now (code .entry)) [])) ⌝ }
+{
+    let front = front_sw(ins, h, given, code);
+    let tries = tries_sw(tries_at(card, TRANSPORT));
+    let challenge = challenge_sw(card.session);
+    let late = or_else(tries, challenge);
+    let early = or_else(class_sw(h), or_else(front, late));
+    let sw = or_else(frame_sw(h), early);
+    both(takes_code(ins), both(h.cla == WITH_CODE, sw == 0x9000))
+}
+
+// What is given is the code of what it covers, under all sixteen bytes of the transport key.
+pub fn is_code(card: Card, covered: &[u8], code: &[u8]) -> bool
     ensures { λ r. ⌜ r ≡ codeGiven card (now (covered .entry)) (now (code .entry)) ⌝ }
 {
     let key = card.credentials[TRANSPORT];

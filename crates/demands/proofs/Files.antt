@@ -89,7 +89,7 @@ module _ (y : Kind) (c : Card) (area : List ℕ) (h : sound c area ≡ true) (pl
       within-apart fs (place - 1) (t - 1) (start d t + a) n (λ e. o (omega arith)) (record { low = omega arith; high = omega (arith, fits) })
 
   -- what is told of the file that was named, told of this place
-  here : (named t : ℕ) (right : File → ℕ) → Entitled y c named t (right (fileOf c t)) → t ≡ place → By y c place named right
+  pub here : (named t : ℕ) (right : File → ℕ) → Entitled y c named t (right (fileOf c t)) → t ≡ place → By y c place named right
   here named t right q e =
       (q .named-is ∙ e, ap (λ z. opens c (right (fileOf c z))) (sym e) ∙ q .held, λ a. q .by-code (ap (λ z. asksCode (right (fileOf c z))) e ∙ a))
 
@@ -147,7 +147,7 @@ module _ (i : Ins) (c : Card) (area : List ℕ) (h : sound c area ≡ true) (pla
       there = low;
       start-is = refl;
       size-is = refl;
-      kept = stored-by x c area h place some low k _ t a (did v (stores t a bytes)) q refl (λ o. refl);
+      kept = stored-by x c area h place some low k _ t a (did v (stores t a bytes)) (q .fair) refl (λ o. refl);
       hidden = inl (inr (omega arith));
     }
     deed-treats (appends t bytes) q =

@@ -30,7 +30,7 @@ use Rattle.rules.specs.declared.Card.{Card}
 use Rattle.rules.specs.declared.Ins.{Ins}
 use Rattle.rules.specs.declared.Ins.the-variants.{Select, CreateFile}
 use Rattle.rules.specs.Words.{first, same, swBytes}
-use Rattle.rules.specs.State.{Which, device, admin, user, transport, marked, Login, Logins, login, logins, challenge, mode, waiting, withCredentials, withWaiting}
+use Rattle.rules.specs.State.{Which, device, admin, user, transport, marked, Login, Logins, login, logins, challenge, mode, waiting, withCredentials, withDirectory, withWaiting}
 use Rattle.rules.specs.Frame.{Command, framed, frameSw, classSw}
 use Rattle.rules.specs.Effect.{Deed, turns, enters, shows, stores, appends, makes, founds, Touch, nothing, presents, changes, reloads, challenges, Effect}
 use Rattle.rules.specs.Binary.{fileOf, opens}
@@ -214,7 +214,7 @@ module _ (c : Card) (area cmd random : List ℕ) (live : Live (world c area)) (p
 
 module _ (c : Card) (area : List ℕ) (live : Live (world c area)) (l : Ledger) (agree : Agree c l) where
   -- the next call, and a file
-  call-alters : (e : Event) (n : ℕ) → IsFile c n → Stays (world c area) (called (world c area) e) n ⊎ Writes c l e n
+  pub call-alters : (e : Event) (n : ℕ) → IsFile c n → Stays (world c area) (called (world c area) e) n ⊎ Writes c l e n
   call-alters (sent cmd random reply) n file-here =
       rw (command-is c area live cmd random reply)
       (split (λ v. Stays (world c area) v n ⊎ Written c l cmd n) (servable random reply)
@@ -228,7 +228,7 @@ module _ (c : Card) (area : List ℕ) (live : Live (world c area)) (l : Ledger) 
       inl (rw (reset-is c area live) (record { there = record { first = file-here .first; last = file-here .last }; file-is = refl; bytes-are = refl }))
 
   -- the next command, on an area that differs in the file's bytes alone
-  call-shows : (cmd random reply other : List ℕ) (n : ℕ) → IsFile c n → AlikeBut c n area other
+  pub call-shows : (cmd random reply other : List ℕ) (n : ℕ) → IsFile c n → AlikeBut c n area other
       → SameBut n (command c area cmd random reply) (command c other cmd random reply) ⊎ Read c l cmd n
   call-shows cmd random reply other n file-here alike =
       let there : Live (world c other) = record {
@@ -314,7 +314,7 @@ shown o area es h cmd random reply other place here alike =
     call-shows _ _ (after-live o area es h) (ledger o es) (follows o area es h) cmd random reply other place here alike
 
 -- the next file, with all that CREATE FILE says of it
-record New (i : Ins) (c : Card) (area : List ℕ) (k : Command) (e : Effect) : Type 0 where
+pub record New (i : Ins) (c : Card) (area : List ℕ) (k : Command) (e : Effect) : Type 0 where
   by-create : i ≡ CreateFile
   held : opens c (creationRight c) ≡ true
   one-more : e .card .directory .count ≡ c .directory .count + 1
@@ -324,7 +324,7 @@ record New (i : Ins) (c : Card) (area : List ℕ) (k : Command) (e : Effect) : T
       extent (e .card .directory) (c .directory .count + 1) (splice area (e .into) (e .stores)) ≡ zeros (sizeOf (labelGiven (c .session .folder) k))
 
 -- the next directory
-record NewDirectory (i : Ins) (c : Card) (k : Command) (e : Effect) : Type 0 where
+pub record NewDirectory (i : Ins) (c : Card) (k : Command) (e : Effect) : Type 0 where
   by-create : i ≡ CreateFile
   in-root : c .session .folder ≡ 0
   held : opens c (creationRight c) ≡ true
@@ -333,14 +333,14 @@ record NewDirectory (i : Ins) (c : Card) (k : Command) (e : Effect) : Type 0 whe
   tag-is : tagNo (e .card) (c .directory .number + 1) ≡ tagGiven k
 
 -- an effect leaves as many files and directories, or one more
-abbrev Counts : Ins → Card → List ℕ → Command → Effect → Type 0
+abbrev pub Counts : Ins → Card → List ℕ → Command → Effect → Type 0
 Counts i c area k e = NoneMade (world c area) (world (e .card) area) ⊎ (New i c area k e ⊎ NewDirectory i c k e)
 
 module _ (i : Ins) (c : Card) (area : List ℕ) (live : Live (world c area)) (k : Command) where
   same-counts : (e : Effect) → e .card .directory .count ≡ c .directory .count → e .card .directory .number ≡ c .directory .number → Counts i c area k e
   same-counts e p q = inl (record { files-are = p; directories-are = q })
 
-  deed-counts : (xs : List Credential) (d : Deed) → Fair i c area k d → Counts i c area k (did (withCredentials c xs) d)
+  pub deed-counts : (xs : List Credential) (d : Deed) → Fair i c area k d → Counts i c area k (did (withCredentials c xs) d)
   unfolding created founded
   deed-counts xs (turns place) q = same-counts _ refl refl
   deed-counts xs (enters n) q = same-counts _ refl refl
@@ -413,40 +413,57 @@ module _ (c : Card) (area : List ℕ) (live : Live (world c area)) (l : Ledger) 
   }
 
 -- the step's card and area are those of its effect
-abbrev Grew : Ledger → World → World → List ℕ → Type 0
+abbrev pub Grew : Ledger → World → World → List ℕ → Type 0
 Grew l w v cmd = NoneMade w v ⊎ (Made l w v cmd ⊎ MadeDirectory l w v cmd)
+
+-- what comes of a deed or a touch, told of any card and area that have its files
+module _ (l : Ledger) (c : Card) (area cmd : List ℕ) (live : Live (world c area)) (agree : Agree c l) (e : Effect) where
+  abbrev told-card : Card → Card
+  told-card x = withDirectory x (e .card .directory)
+
+  abbrev told-area : List ℕ
+  told-area = splice area (e .into) (e .stores)
+
+  counted : (x : Card) → Counts (listed (framed cmd)) c area (framed cmd) e → Grew l (world c area) (world (told-card x) told-area) cmd
+  counted x =
+      let i = listed (framed cmd) in
+      let now = agree .tree-is .current-is in
+      ⊎-elim (λ (n : NoneMade (world c area) (world (e .card) area)). inl (record { files-are = n .files-are; directories-are = n .directories-are }))
+      (λ y. inr (⊎-elim
+      (λ (m : New i c area (framed cmd) e). inl (record {
+        by-create = subst (λ i. NamedBy i (framed cmd .cla) (framed cmd .ins)) (m .by-create) (listed-by-bytes (framed cmd));
+        by-right = create-right c area live l agree (m .held);
+        one-more = m .one-more;
+        directories-are = m .directories-are;
+        label-is = ap labelOf (m .file-is .1 .0) ∙ m .file-is .1 .1 ∙ ap (λ n. labelGiven n (framed cmd)) now;
+        bytes-are =
+            bytes-are (told-card x) told-area (c .directory .count + 1) ∙ m .bytes-are ∙ ap (λ n. zeros (sizeOf (labelGiven n (framed cmd)))) now;
+        none-held = ap (λ (f : File). f .held) (m .file-is .1 .0);
+        none-used = ap (λ (f : File). two (f .used1) (f .used2)) (m .file-is .1 .0);
+      }))
+      (λ (m : NewDirectory i c (framed cmd) e). inr (record {
+        by-create = subst (λ i. NamedBy i (framed cmd .cla) (framed cmd .ins)) (m .by-create) (listed-by-bytes (framed cmd));
+        in-root = sym now ∙ m .in-root;
+        device-held = root-told c area live l agree (m .held) (m .in-root);
+        one-more = m .one-more;
+        files-are = m .files-are;
+        tag-is = m .tag-is;
+      })) y))
+
+  pub grew : (x : Card) (y : List ℕ) → x .directory ≡ e .card .directory → y ≡ splice area (e .into) (e .stores)
+      → Counts (listed (framed cmd)) c area (framed cmd) e → Grew l (world c area) (world x y) cmd
+  grew x y p q k =
+      subst (λ (d : Directory). Grew l (world c area) (world (withDirectory x d) y) cmd) (sym p)
+      (subst (λ (z : List ℕ). Grew l (world c area) (world (told-card x) z) cmd) (sym q) (counted x k))
 
 at-once-makes : (l : Ledger) (c : Card) (area cmd random : List ℕ) → Live (world c area) → Agree c l
     → Grew l (world c area) (world (atOnce c area cmd random .card) (atOnce c area cmd random .area)) cmd
 unfolding atOnce settled
 at-once-makes l c area cmd random live agree =
-    let i = listed (framed cmd) in
-    let e = outcome i c (recordFound c area (framed cmd)) (framed cmd) random in
-    let now = agree .tree-is .current-is in
-    ⊎-elim (λ (n : NoneMade (world c area) (world (e .card) area)). inl (record { files-are = n .files-are; directories-are = n .directories-are }))
-    (λ y. inr (⊎-elim
-    (λ (m : New i c area (framed cmd) e). inl (record {
-      by-create = subst (λ i. NamedBy i (framed cmd .cla) (framed cmd .ins)) (m .by-create) (listed-by-bytes (framed cmd));
-      by-right = create-right c area live l agree (m .held);
-      one-more = m .one-more;
-      directories-are = m .directories-are;
-      label-is = ap labelOf (m .file-is .1 .0) ∙ m .file-is .1 .1 ∙ ap (λ n. labelGiven n (framed cmd)) now;
-      bytes-are =
-          bytes-are (atOnce c area cmd random .card) (atOnce c area cmd random .area) (c .directory .count + 1) ∙ m .bytes-are ∙ ap (λ n. zeros (sizeOf (labelGiven n (framed cmd)))) now;
-      none-held = ap (λ (f : File). f .held) (m .file-is .1 .0);
-      none-used = ap (λ (f : File). two (f .used1) (f .used2)) (m .file-is .1 .0);
-    }))
-    (λ (m : NewDirectory i c (framed cmd) e). inr (record {
-      by-create = subst (λ i. NamedBy i (framed cmd .cla) (framed cmd .ins)) (m .by-create) (listed-by-bytes (framed cmd));
-      in-root = sym now ∙ m .in-root;
-      device-held = root-told c area live l agree (m .held) (m .in-root);
-      one-more = m .one-more;
-      files-are = m .files-are;
-      tag-is = m .tag-is;
-    })) y))
-    (step-counts c area cmd random live)
+    grew l c area cmd live agree (outcome (listed (framed cmd)) c (recordFound c area (framed cmd)) (framed cmd) random) (atOnce c area cmd random .card)
+    (atOnce c area cmd random .area) refl refl (step-counts c area cmd random live)
 
-step-makes : (l : Ledger) (c : Card) (area cmd random : List ℕ) → Live (world c area) → Agree c l
+pub step-makes : (l : Ledger) (c : Card) (area cmd random : List ℕ) → Live (world c area) → Agree c l
     → Grew l (world c area) (world (step c area cmd random .card) (step c area cmd random .area)) cmd
 step-makes l c area cmd random live agree =
     let made = at-once-makes l c area cmd random live agree in

@@ -49,7 +49,7 @@ module _ (i : Ins) (c : Card) (area : List ℕ) (h : sound c area ≡ true) (k :
   abbrev d : Directory
   d = c .directory
 
-  deed-tree : (xs : List Credential) (x : Deed) → Fair i c area k x → Same (did (withCredentials c xs) x .card) (treeBy x w)
+  pub deed-tree : (xs : List Credential) (x : Deed) → Fair i c area k x → Same (did (withCredentials c xs) x .card) (treeBy x w)
   unfolding created founded
   deed-tree xs (turns place) q = m
   deed-tree xs (enters n) q =

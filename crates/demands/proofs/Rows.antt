@@ -45,7 +45,7 @@ use Rattle.rules.proofs.Good.{Lies, Good, sound-good}
 use Rattle.rules.proofs.Coded.{coded-good, code-agreed}
 use Rattle.rules.proofs.Targets.{not-zero, read-few, target-low, target-lies, selected-low, selected-lies, entered-low}
 use Rattle.rules.proofs.Asked.{some-file, binary-asked, create-asked, found-asked, found-in-root, pin-asked, challenge-asked}
-use Rattle.rules.proofs.Found.{read-fits, read-long, update-fits, update-stored, append-fits, append-stored}
+use Rattle.rules.proofs.Found.{read-fits, read-long, update-fits, update-any, update-stored, append-fits, append-stored}
 use Rattle.rules.proofs.Found as found
 use Rattle.rules.proofs.Equal.{same-equal, cryptogram-is}
 use Rattle.demands.specs.Ledger.{Kind, other, right as rightly, changed, reloaded, Tree, pinSent, inDigits, presentAsks, keyAsks, changeAsks, reloadAsks, challengeAsks, response, passes, presented, about, kind, challenged, labelGiven, tagGiven, grown, pinOf, binaryP, recordP, appendP}
@@ -111,6 +111,12 @@ pub record FairStore (x : Kind) (c : Card) (area : List ℕ) (named place at : �
   pub fits : at + length bytes ≤ size (fileOf c place)
   pub stored : Stored (fileOf c place) f (extent (c .directory) place area) at bytes
 
+-- an update leaves it parted whatever bytes it stores, as many
+pub record FairUpdate (x : Kind) (c : Card) (area : List ℕ) (named place at : ℕ) (bytes : List ℕ) : Type 0 where
+  pub fair : FairStore x c area named place at (fileOf c place) bytes
+  pub any : (other : List ℕ) → length other ≡ length bytes
+      → Stored (fileOf c place) (fileOf c place) (extent (c .directory) place area) at other
+
 pub record FairAppend (x : Kind) (c : Card) (area : List ℕ) (named place : ℕ) (d : List ℕ) : Type 0 where
   pub fair :
       FairStore x c area named place (nextStart (fileOf c place)) (appended (fileOf c place) (length d)) (entry (fileOf c place) d)
@@ -123,12 +129,14 @@ pub record FairTurn (c : Card) (place : ℕ) : Type 0 where
 
 pub record FairMake (i : Ins) (c : Card) (k : Command) (f : File) : Type 0 where
   pub by-create : i ≡ CreateFile
+  pub no-folder : isFolder k ≡ false
   pub held : opens c (creationRight c) ≡ true
   pub given : labelOf f ≡ labelGiven (c .session .folder) k
   pub served : creates (c .directory) f areaSize ≡ true
 
 pub record FairFound (i : Ins) (c : Card) (k : Command) (x : Folder) : Type 0 where
   pub by-create : i ≡ CreateFile
+  pub is-folder : isFolder k ≡ true
   pub in-root : c .session .folder ≡ 0
   pub held : opens c (creationRight c) ≡ true
   pub given : tagOf x ≡ tagGiven k
@@ -143,7 +151,7 @@ abbrev pub Fair : Ins → Card → List ℕ → Command → Deed → Type 0
 Fair i c area k (turns place) = FairTurn c place
 Fair i c area k (enters n) = n ≤ c .directory .number
 Fair i c area k (shows place at n) = FairShow (codeIn i c k) c k (readsFrom (role i) c k) place at n
-Fair i c area k (stores place at d) = FairStore (codeIn i c k) c area (writesTo (role i) c k) place at (fileOf c place) d
+Fair i c area k (stores place at d) = FairUpdate (codeIn i c k) c area (writesTo (role i) c k) place at d
 Fair i c area k (appends place d) = FairAppend (codeIn i c k) c area (writesTo (role i) c k) place d
 Fair i c area k (makes f) = FairMake i c k f
 Fair i c area k (founds x) = FairFound i c k x
@@ -216,12 +224,15 @@ module _ (x : Kind) (c : Card) (area : List ℕ) (h : sound c area ≡ true) (k 
         few = read-few (fileOf c b) k;
       }
 
-  binary-update : Passed (updateBinaryChecks c k) → FairStore x c area b b (offset k) (fileOf c b) (k .given)
+  binary-update : Passed (updateBinaryChecks c k) → FairUpdate x c area b b (offset k) (k .given)
   unfolding updateBinaryChecks
   binary-update p = record {
-    entitled = entitled _ _ (p .0) (p .1 .1 .0) (p .1 .1 .1 .0);
-    fits = binary-fits _ (offset k) (lc k) (binary-asked c k b _ (offset k) (lc k) p);
-    stored = stored-plain _ _ _ _ _ (binary-plain (fileOf c b) (p .1 .0));
+    fair = record {
+      entitled = entitled _ _ (p .0) (p .1 .1 .0) (p .1 .1 .1 .0);
+      fits = binary-fits _ (offset k) (lc k) (binary-asked c k b _ (offset k) (lc k) p);
+      stored = stored-plain _ _ _ _ _ (binary-plain (fileOf c b) (p .1 .0));
+    };
+    any = λ other e. stored-plain _ _ _ _ _ (binary-plain (fileOf c b) (p .1 .0));
   }
 
   record-read : Passed (readRecordChecks c l k) → FairShow x c k t t (l .start) (l .length)
@@ -235,14 +246,17 @@ module _ (x : Kind) (c : Card) (area : List ℕ) (h : sound c area ≡ true) (k 
         few = λ m. omega (arith, long);
       }
 
-  record-update : Passed (updateRecordChecks c l k) → FairStore x c area t t (l .start) (fileOf c t) (k .given)
+  record-update : Passed (updateRecordChecks c l k) → FairUpdate x c area t t (l .start) (k .given)
   unfolding updateRecordChecks
   record-update p =
       let some = some-file t (p .0) in
       record {
-        entitled = entitled _ _ (p .0) (p .1 .1 .0) (p .1 .1 .1 .0);
-        fits = update-fits c area h k some p;
-        stored = update-stored c area h k some p;
+        fair = record {
+          entitled = entitled _ _ (p .0) (p .1 .1 .0) (p .1 .1 .1 .0);
+          fits = update-fits c area h k some p;
+          stored = update-stored c area h k some p;
+        };
+        any = update-any c area h k some p;
       }
 
   record-append : Passed (appendChecks c k) → FairAppend x c area t t (k .given)
@@ -265,8 +279,8 @@ module _ (c : Card) (area : List ℕ) (h : sound c area ≡ true) (k : Command) 
   created p =
       let held = holds (opens c (creationRight c)) 0x6982 refl (p .1 .1 .0) in
       split (Fair CreateFile c area k) (isFolder k)
-      (λ e. record { by-create = refl; in-root = found-in-root c k e p; held = held; given = given-tag k; served = found-asked c k e p })
-      (λ e. record { by-create = refl; held = held; given = given-label (c .session .folder) k; served = create-asked c k (sound-good c area h .folder) e p })
+      (λ e. record { by-create = refl; is-folder = e; in-root = found-in-root c k e p; held = held; given = given-tag k; served = found-asked c k e p })
+      (λ e. record { by-create = refl; no-folder = e; held = held; given = given-label (c .session .folder) k; served = create-asked c k (sound-good c area h .folder) e p })
 
   -- where a SELECT leads
   turned : Fair Select c area k (selectDeed c k)

@@ -177,7 +177,7 @@ module _ (c : Card) (area : List ℕ) (live : Live (world c area)) (l : Ledger) 
       (λ m f. kept-source c area live l agree cmd random)
       (λ m f. inl (same-left _ (at-once-response c area cmd random)))
 
-  call-put : (e : Event) → PutBy (world c area) (called (world c area) e) l e
+  pub call-put : (e : Event) → PutBy (world c area) (called (world c area) e) l e
   call-put (sent cmd random reply) =
       rw (command-is c area live cmd random reply)
       (split (Put cmd) (servable random reply) (λ q. step-put cmd random) (λ q. inl (same-left _ refl)))

@@ -97,7 +97,7 @@ module _ (c : Card) (area : List ℕ) (h : sound c area ≡ true) (k : Command) 
     shown = place-run (c .directory) (g .directory) place (q .entitled .some) (q .entitled .low) at n (q .fits);
     stored = omega arith;
   }
-  deed-leaves i xs v (stores place at d) q = leaves-stored _ (turned (withCredentials c xs) v place (q .entitled .low) (q .entitled .lies)) refl q
+  deed-leaves i xs v (stores place at d) q = leaves-stored _ (turned (withCredentials c xs) v place (q .fair .entitled .low) (q .fair .entitled .lies)) refl (q .fair)
   deed-leaves i xs v (appends place d) q =
       let who = q .fair .entitled in
       let w = filed (c .directory) (g .directory) in

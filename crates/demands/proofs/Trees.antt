@@ -84,10 +84,10 @@ pub record TreeGrown (t later : Tree) : Type 0 where
 turned-grown : (t : Tree) (n : ℕ) → TreeGrown t (turnedTo t n)
 turned-grown t n = record { files = same-grown Label noLabel (t .labels); directories = same-grown Tag noTag (t .tags) }
 
-same-tree : (t : Tree) → TreeGrown t t
+pub same-tree : (t : Tree) → TreeGrown t t
 same-tree t = record { files = same-grown Label noLabel (t .labels); directories = same-grown Tag noTag (t .tags) }
 
-twice-tree : (a b c : Tree) → TreeGrown a b → TreeGrown b c → TreeGrown a c
+pub twice-tree : (a b c : Tree) → TreeGrown a b → TreeGrown b c → TreeGrown a c
 twice-tree a b c g h = record {
   files = twice-grown Label noLabel (a .labels) (b .labels) (c .labels) (g .files) (h .files);
   directories = twice-grown Tag noTag (a .tags) (b .tags) (c .tags) (g .directories) (h .directories);
@@ -99,7 +99,7 @@ made-grown t k =
     (λ e. record { files = same-grown Label noLabel (t .labels); directories = more-grown Tag noTag (t .tags) (tagGiven k) })
     (λ e. record { files = more-grown Label noLabel (t .labels) (labelGiven (t .current) k); directories = same-grown Tag noTag (t .tags) })
 
-role-grown : (r : Role) (l : Logins) (t : Tree) (k : Command) → TreeGrown t (grown r l t k)
+pub role-grown : (r : Role) (l : Logins) (t : Tree) (k : Command) → TreeGrown t (grown r l t k)
 unfolding grown
 role-grown touchesNothing l t k = same-tree t
 role-grown selects l t k = split (TreeGrown t) (passes (seekChecks t k) k) (λ e. turned-grown t (leadsTo t k)) (λ e. same-tree t)
@@ -115,7 +115,7 @@ role-grown changesPin l t k = same-tree t
 role-grown reloadsPin l t k = same-tree t
 role-grown asksChallenge l t k = same-tree t
 
-next-grown : (l : Ledger) (e : Event) → TreeGrown (l .tree) (next l e .tree)
+pub next-grown : (l : Ledger) (e : Event) → TreeGrown (l .tree) (next l e .tree)
 next-grown l (sent cmd random reply) =
     split (λ (x : Ledger). TreeGrown (l .tree) (x .tree)) (servable random reply)
     (λ e. role-grown (role (listed (framed cmd))) (tells l) (l .tree) (framed cmd)) (λ e. same-tree (l .tree))

@@ -22,7 +22,7 @@ use Rattle.rules.specs.declared.Ins.the-variants.{ReadBinary}
 use Rattle.rules.specs.declared.Card.{Card}
 use Rattle.rules.specs.Words.{orElse, first, allOf, same, byte}
 use Rattle.rules.specs.State.{Which, user, transport, forEach, Login, login, logins, challenge, waiting, withRights}
-use Rattle.rules.specs.Sound.{goodMode, goodPin, goodValue, soundValue, soundTries, soundCredential, soundChallenge, soundResponse, soundCurrent, soundState, sound}
+use Rattle.rules.specs.Sound.{goodMode, goodPin, goodValue, soundValue, soundTries, soundCredential, soundChallenge, soundResponse, soundJournal, soundCurrent, soundState, sound}
 use Rattle.rules.specs.Frame.{Command, caseOf, framed, frameSw, classSw}
 use Rattle.rules.specs.List.{rows, find, listed, rule}
 use Rattle.rules.specs.Select.{selectChecks}
@@ -152,7 +152,7 @@ coded-read d = 0x04 ∷ 0xB0 ∷ 0x82 ∷ 0x00 ∷ 0x04 ∷ (first-bytes 4 d ++ 
 
 -- a card in use, by computation: to unfold this is to unfold all that these commands need, the cipher apart
 computed : ℕ → List Event → World
-unfolding codeSw presentsCode credentialsAfter order wrong-pin query get-challenge first-bytes log-in asks-five asks-four make-file make-directory select-root select-directory read-file make-coded coded-read after run issue goodOrder goodValue goodPin allOf command sound soundState partedArea soundValue soundTries soundCredential soundChallenge soundResponse soundDirectory soundFile unusedPlace sfisDiffer soundFolders soundFolder unusedFolder soundCurrent soundHeld goodShape count recordLength size used startAt allBelow over part splice orElse caseOf framed rows find listed rule checks effectOf kept outcome settled atOnce fetches step getChallengeChecks same verifyChecks comparedAt fetched getResponseChecks waitSw selectChecks seek findFid findFolder authenticateChecks allowed allHeld anyHeld goodRights goodFileRights goodContents goodFolder goodFolderGiven findSfi fidUnused nameUnused apart room created founded fileGiven folderGiven creationRight createChecks target readCount readBinaryChecks soundUsed bytesUsed partedFile
+unfolding codeSw presentsCode credentialsAfter order wrong-pin query get-challenge first-bytes log-in asks-five asks-four make-file make-directory select-root select-directory read-file make-coded coded-read after run issue goodOrder goodValue goodPin allOf command sound soundState partedArea soundValue soundTries soundCredential soundChallenge soundResponse soundJournal soundDirectory soundFile unusedPlace sfisDiffer soundFolders soundFolder unusedFolder soundCurrent soundHeld goodShape count recordLength size used startAt allBelow over part splice orElse caseOf framed rows find listed rule checks effectOf kept outcome settled atOnce fetches step getChallengeChecks same verifyChecks comparedAt fetched getResponseChecks waitSw selectChecks seek findFid findFolder authenticateChecks allowed allHeld anyHeld goodRights goodFileRights goodContents goodFolder goodFolderGiven findSfi fidUnused nameUnused apart room created founded fileGiven folderGiven creationRight createChecks target readCount readBinaryChecks soundUsed bytesUsed partedFile
 computed m before = in-use m before
 
 -- a challenge has data

@@ -22,7 +22,7 @@ use Rattle.files.specs.Walk.{stands, past, walk, parted, standing}
 use Rattle.files.specs.Create.{goodContents, apart, nameUnused, room, created, goodFolder, fidUnused, founded}
 use Rattle.files.specs.Sound.{soundFile, unusedPlace, sfisDiffer, unusedFolder, soundFolder, soundFolders, soundDirectory, partedArea}
 use Rattle.rules.specs.Words.{orElse, allOf, same}
-use Rattle.rules.specs.Sound.{goodPin, goodValue, soundValue, soundTries, soundCredential, soundChallenge, soundResponse, soundCurrent, soundState, sound}
+use Rattle.rules.specs.Sound.{goodPin, goodValue, soundValue, soundTries, soundCredential, soundChallenge, soundResponse, soundJournal, soundCurrent, soundState, sound}
 use Rattle.rules.specs.Frame.{caseOf, framed}
 use Rattle.rules.specs.List.{rows, find, listed, rule}
 use Rattle.rules.specs.Select.{selectChecks}
@@ -66,7 +66,7 @@ use Rattle.edges.specs.Edges.{edges, EachHolds}
 
 -- whether rows hold, by computation: to unfold this is to unfold every rule that a row may need
 computed : List Edge → Bool
-unfolding xPower square squares inverse sbox mixColumn expanded keyExpansion roundKey fullRound lastRound rounds cipher aes128 padded added link chain firstBlocks mac allBelow part splice over count recordLength size goodShape allHeld anyHeld allowed goodRights goodFileRights used startAt extent isPlace inArea seek findFid findSfi findFolder back next bytesUsed placesHeld placeOf recordsHeld startOf lengthOf located locatedIn nextPlace nextStart entry appended soundHeld soundUsed partedFile isRecord hasRoom stands past walk parted standing goodContents apart nameUnused room created goodFolder fidUnused founded soundFile unusedPlace sfisDiffer unusedFolder soundFolder soundFolders soundDirectory partedArea orElse allOf same goodPin goodValue soundValue soundTries soundCredential soundChallenge soundResponse soundCurrent soundState sound caseOf framed rows find listed rule selectChecks target readCount readBinaryChecks updateBinaryChecks recordFound readRecordChecks updateRecordChecks appendChecks comparedAt verifyChecks changeChecks reloadChecks authenticateChecks getChallengeChecks fileGiven folderGiven goodFolderGiven creationRight createChecks waitSw getResponseChecks fetches codeSw presentsCode credentialsAfter checks effectOf kept outcome settled atOnce fetched step command reset goodOrder issue
+unfolding xPower square squares inverse sbox mixColumn expanded keyExpansion roundKey fullRound lastRound rounds cipher aes128 padded added link chain firstBlocks mac allBelow part splice over count recordLength size goodShape allHeld anyHeld allowed goodRights goodFileRights used startAt extent isPlace inArea seek findFid findSfi findFolder back next bytesUsed placesHeld placeOf recordsHeld startOf lengthOf located locatedIn nextPlace nextStart entry appended soundHeld soundUsed partedFile isRecord hasRoom stands past walk parted standing goodContents apart nameUnused room created goodFolder fidUnused founded soundFile unusedPlace sfisDiffer unusedFolder soundFolder soundFolders soundDirectory partedArea orElse allOf same goodPin goodValue soundValue soundTries soundCredential soundChallenge soundResponse soundJournal soundCurrent soundState sound caseOf framed rows find listed rule selectChecks target readCount readBinaryChecks updateBinaryChecks recordFound readRecordChecks updateRecordChecks appendChecks comparedAt verifyChecks changeChecks reloadChecks authenticateChecks getChallengeChecks fileGiven folderGiven goodFolderGiven creationRight createChecks waitSw getResponseChecks fetches codeSw presentsCode credentialsAfter checks effectOf kept outcome settled atOnce fetched step command reset goodOrder issue
 computed = allHold
 
 pub starred-hold : allHold starred ≡ true

@@ -11,7 +11,7 @@ use Rattle.rules.specs.declared.Tries.{Tries}
 use Rattle.rules.specs.declared.Credential.{Credential}
 use Rattle.rules.specs.declared.Card.{Card}
 use Rattle.rules.specs.Tries.{full}
-use Rattle.rules.specs.State.{Which, device, admin, user, transport, withCredential, withDirectory, withSession, withLogin}
+use Rattle.rules.specs.State.{Which, device, admin, user, transport, withCredential, withDirectory, withSession, withJournal, journalOf, withLogin}
 use Rattle.edges.specs.Table.{hex, random, Edge, stated}
 use Rattle.edges.specs.Cards.{holder, filed, add, cabinet}
 use Rattle.edges.specs.Create.{fifteen}
@@ -119,7 +119,7 @@ good-logins w =
 
 -- four credentials
 abbrev pub keeping : List Credential → Card
-keeping xs = record { credentials = xs; directory = plain .directory; session = plain .session; response = plain .response }
+keeping xs = record { credentials = xs; directory = plain .directory; session = plain .session; response = plain .response; journal = plain .journal }
 
 abbrev pub bad-counts : List Card
 bad-counts =
@@ -255,5 +255,23 @@ bad-sessions =
 abbrev pub good-sessions : List Card
 good-sessions = session 8 (zeros 16) 0 ∷ session 1 (zeros 16) 4 ∷ session 0 (replicate 8 0xFF ++ zeros 8) 8 ∷ session 0 random 16 ∷ []
 
+-- a journal that says this and holds these bytes
+abbrev pub noting : ℕ → List ℕ → Card
+noting what bytes = withJournal plain (journalOf what bytes)
+
+-- nothing is in the journal (R-10), in seventeen places
+abbrev pub bad-journals : List Card
+bad-journals =
+    noting 1 (zeros 17)
+    ∷ noting 2 (zeros 17)
+    ∷ noting 16 (zeros 17)
+    ∷ noting 255 (zeros 17)
+    ∷ noting 0 (0x01 ∷ zeros 16)
+    ∷ noting 0 (zeros 8 ++ (0x80 ∷ zeros 8))
+    ∷ noting 0 (zeros 16 ++ (0xFF ∷ []))
+    ∷ noting 0 (zeros 16)
+    ∷ noting 0 (zeros 18)
+    ∷ []
+
 abbrev pub sessions : List Edge
-sessions = bad bad-sessions ++ good good-sessions
+sessions = bad bad-sessions ++ good good-sessions ++ bad bad-journals

@@ -1,32 +1,38 @@
 // The calls for C, all of them: include/limpetnook.h declares each. A card is lent by `&mut` and driven in place through call after call: each
 // function calls the one of `card` that takes a card by value, and stores the answer.
 mod board; // board.rt: the main board's side of a code
+mod hand; // hand.rt: a store as it is handed over
 
 ghost use mathlib.Core.Path.{_≡_};
 ghost use Rattle.rules.specs.Calls.{issue, command, reset};
+ghost use Rattle.power.specs.Recovery.{recover};
 ghost use Rattle.cipher.specs.Call.{Enciphered};
 ghost use Rattle.card.specs.Ordered.{orderOf};
+ghost use Rattle.stores.specs.Runs.{stores};
 ghost use Rattle.texts.specs.Text.{new};
 ghost use Rattle.texts.specs.Calls.{toText, fromText, toNew, toOld};
-ghost use Rattle.limpetnook.specs.Place.{Placed, PlacesIssue, PlacesCommand, PlacesText, PlacesConverted, PlacesCard, cardSize, version};
+ghost use Rattle.limpetnook.specs.Place.{Placed, PlacesIssue, PlacesCommand, PlacesText, PlacesConverted, PlacesCard, slipOf, PlacesStore, PlacesRun, cardSize, version};
 ghost use Rattle.limpetnook.specs.Board.{Coded};
 use crate::board::CODE_SIZE;
 use crate::board::block_of;
 use crate::board::good_lengths;
+use crate::hand::slip;
 use card::issue::issue;
 use card::issue::reset;
+use card::recover::recover;
 use card::step::command;
 use cipher::encipher;
 use codes::mac;
 use files::run::show;
 use rules::Card;
+use stores::run::stores;
 use texts::calls::from_text;
 use texts::calls::to_new;
 use texts::calls::to_old;
 use texts::calls::to_text;
 
 // No function of the language says how large a value is; the contract does.
-const CARD_SIZE: usize = 563;
+const CARD_SIZE: usize = 581;
 
 // The bytes that a card takes.
 #[no_mangle]
@@ -41,7 +47,7 @@ pub extern "C" fn limpet_card_size() -> usize
 pub extern "C" fn limpet_version() -> u32
     ensures { λ r. ⌜ r ≡ version ⌝ }
 {
-    11
+    12
 }
 
 // One block of AES-128.
@@ -123,6 +129,63 @@ pub extern "C" fn limpet_reset(card: &mut Card, area: &[u8]) -> u8
     let cleared = reset(*card, area);
     *card = cleared.card;
     cleared.outcome
+}
+
+// A card that a cut left in the middle of a command, or any other.
+#[no_mangle]
+pub extern "C" fn limpet_recover(card: &mut Card, area: &[u8]) -> u8
+    ensures { λ r. ⌜ Placed (recover (now (card .entry)) (now (area .entry))) r (now (card .exit)) ⌝ }
+{
+    let made = recover(*card, area);
+    *card = made.card;
+    made.outcome
+}
+
+// What C is given of a store: 1 in `given` where there is one.
+pub struct Slip {
+    pub outcome: u8,
+    pub address: u16,
+    pub value: u8,
+    pub given: u8,
+}
+
+// Store number n of a command; the card is the one from before the command, and stays as it was.
+#[no_mangle]
+pub extern "C" fn limpet_store(
+    card: &mut Card,
+    area: &[u8],
+    cmd: &[u8],
+    random: &[u8],
+    n: usize,
+    address: &mut u16,
+    value: &mut u8,
+    given: &mut u8,
+) -> u8
+    ensures { λ r. ⌜ PlacesStore (now (card .entry)) (slipOf (now (card .entry)) (now (area .entry)) (now (cmd .entry)) (now (random .entry)) n) r (now (card .exit)) (now (address .exit)) (now (value .exit)) (now (given .exit)) ⌝ }
+{
+    let s = slip(*card, area, cmd, random, n);
+    *address = s.address;
+    *value = s.value;
+    *given = s.given;
+    s.outcome
+}
+
+// A run of them at once, from number `first` on, three bytes each.
+#[no_mangle]
+pub extern "C" fn limpet_stores(
+    card: &mut Card,
+    area: &[u8],
+    cmd: &[u8],
+    random: &[u8],
+    first: u16,
+    out: &mut [u8],
+    count: &mut usize,
+) -> u8
+    ensures { λ r. ⌜ PlacesRun (now (card .entry)) (stores (now (card .entry)) (now (area .entry)) (now (cmd .entry)) (now (random .entry)) first (now (out .entry))) r (now (card .exit)) (now (out .exit)) (now (count .exit)) ⌝ }
+{
+    let done = stores(*card, area, cmd, random, first, out);
+    *count = done.n;
+    done.outcome
 }
 
 // The card is only read. How many bytes of the buffer are the text is stored through count.

@@ -13,7 +13,7 @@ use Rattle.files.specs.Walk.{stands, past, walk, parted, standing}
 use Rattle.files.specs.Create.{goodContents, apart, nameUnused, room, created, goodFolder, fidUnused, founded}
 use Rattle.files.specs.Sound.{soundFile, unusedPlace, sfisDiffer, unusedFolder, soundFolder, soundFolders, soundDirectory, partedArea}
 use Rattle.rules.specs.Words.{orElse, allOf, same}
-use Rattle.rules.specs.Sound.{goodPin, goodValue, soundValue, soundTries, soundCredential, soundChallenge, soundResponse, soundCurrent, soundState, sound}
+use Rattle.rules.specs.Sound.{goodPin, goodValue, soundValue, soundTries, soundCredential, soundChallenge, soundResponse, soundJournal, soundCurrent, soundState, sound}
 use Rattle.rules.specs.Frame.{caseOf, framed}
 use Rattle.rules.specs.List.{rows, find, listed, rule}
 use Rattle.rules.specs.Select.{selectChecks}
@@ -38,7 +38,7 @@ use Rattle.line_examples.specs.Rows.{table, EachHolds}
 
 -- whether rows hold, by computation: to unfold this is to unfold every definition that a row may need
 computed : List Row → Bool
-unfolding codeSw presentsCode credentialsAfter allBelow part splice over count recordLength size goodShape allHeld anyHeld allowed goodRights goodFileRights used startAt extent isPlace inArea seek findFid findSfi findFolder back next bytesUsed placesHeld placeOf recordsHeld startOf lengthOf located locatedIn nextPlace nextStart entry appended soundHeld soundUsed partedFile isRecord hasRoom stands past walk parted standing goodContents apart nameUnused room created goodFolder fidUnused founded soundFile unusedPlace sfisDiffer unusedFolder soundFolder soundFolders soundDirectory partedArea orElse allOf same goodPin goodValue soundValue soundTries soundCredential soundChallenge soundResponse soundCurrent soundState sound caseOf framed rows find listed rule selectChecks target readCount readBinaryChecks updateBinaryChecks recordFound readRecordChecks updateRecordChecks appendChecks comparedAt verifyChecks changeChecks reloadChecks authenticateChecks getChallengeChecks fileGiven folderGiven goodFolderGiven creationRight createChecks waitSw getResponseChecks fetches checks effectOf kept outcome settled atOnce fetched step command reset goodOrder issue digitsIn decimal hexDigit hexOf orDash value tabAt tabs before after isHex bytesOf numberFrom isLimit isIssue orderIn isCommand isReset printed onCard handled answer
+unfolding codeSw presentsCode credentialsAfter allBelow part splice over count recordLength size goodShape allHeld anyHeld allowed goodRights goodFileRights used startAt extent isPlace inArea seek findFid findSfi findFolder back next bytesUsed placesHeld placeOf recordsHeld startOf lengthOf located locatedIn nextPlace nextStart entry appended soundHeld soundUsed partedFile isRecord hasRoom stands past walk parted standing goodContents apart nameUnused room created goodFolder fidUnused founded soundFile unusedPlace sfisDiffer unusedFolder soundFolder soundFolders soundDirectory partedArea orElse allOf same goodPin goodValue soundValue soundTries soundCredential soundChallenge soundResponse soundJournal soundCurrent soundState sound caseOf framed rows find listed rule selectChecks target readCount readBinaryChecks updateBinaryChecks recordFound readRecordChecks updateRecordChecks appendChecks comparedAt verifyChecks changeChecks reloadChecks authenticateChecks getChallengeChecks fileGiven folderGiven goodFolderGiven creationRight createChecks waitSw getResponseChecks fetches checks effectOf kept outcome settled atOnce fetched step command reset goodOrder issue digitsIn decimal hexDigit hexOf orDash value tabAt tabs before after isHex bytesOf numberFrom isLimit isIssue orderIn isCommand isReset printed onCard handled answer
 computed = allHold
 
 pub issue-fields-hold : allHold issue-fields ≡ true

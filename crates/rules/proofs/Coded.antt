@@ -16,7 +16,7 @@ use Rattle.rules.proofs.Checks.{passed, holds}
 use Rattle.rules.proofs.Good.{Good, Tried, tried-full, tried-lowered, tried-in, keyed, no-right}
 
 module _ (c : Card) (g : Good c) where
-  tried-after : (right : Bool) → Tried (triesAfter (login transport c .tries) right) (login transport c .held)
+  pub tried-after : (right : Bool) → Tried (triesAfter (login transport c .tries) right) (login transport c .held)
   tried-after true = tried-full (login transport c .tries .limit) (login transport c .held) (tried-in c g transport .limit)
   tried-after false = rw (no-right c g) (tried-lowered _ _ (tried-in c g transport))
 

@@ -169,6 +169,7 @@ blank-zero = record {
   mode-is = refl;
   counts-are = (refl, refl);
   waiting-are = refl;
+  journal-is = (refl, refl);
 }
 
 -- ---- the rights byte

@@ -3,7 +3,7 @@ use Prim.Native.Nat.{ℕ, zero, suc, _+_, _-_, _*_, _%_, _≤_, _<_}
 use mathlib.Core.Bool.{Bool, true, false, cond, _||_, not}
 use mathlib.Core.List.{List, [], _∷_}
 use mathlib.Core.Logic.{_⊎_, inl, inr, ⊎-elim, by-cases}
-use mathlib.Core.Path.{_≡_, refl, sym, ap, _∙_, subst}
+use mathlib.Core.Path.{_≡_, refl, sym, ap, ap₂, _∙_, subst}
 use native.Mathlib.Decide.{decLt, ℕ-discrete}
 use native.Mathlib.Omega.{arith}
 use lib.Dec.{eqb, leb, ltb}
@@ -22,6 +22,7 @@ use Rattle.files.specs.Record.{bytesUsed, soundHeld, soundUsed, partedFile}
 use Rattle.files.specs.Rights.{goodRights}
 use Rattle.files.specs.Create.{goodContents, apart, housed, goodFolder}
 use Rattle.files.specs.Sound.{soundFile, unusedPlace, soundPlace, alone, unusedFolder, folderAlone, soundFolder, soundHome}
+use Rattle.files.proofs.Blank.{unused-blank, unused-folder}
 use Rattle.files.proofs.Checks.{both, join, each, all}
 use Rattle.files.proofs.Extents.{used-is, start-next}
 use Rattle.files.proofs.Parts.{part-length}
@@ -32,9 +33,10 @@ use Rattle.files.proofs.Lists.{count-cyclic, parted-used}
 use Rattle.files.proofs.Kept.{Filed, filed, is-filed, file-sound, PartedIn}
 use Rattle.rules.specs.declared.Credential.{Credential}
 use Rattle.rules.specs.declared.Session.{Session}
+use Rattle.rules.specs.declared.Journal.{Journal}
 use Rattle.rules.specs.declared.Card.{Card}
 use Rattle.rules.specs.Words.{allOf, byte}
-use Rattle.rules.specs.State.{marked, valueOf}
+use Rattle.rules.specs.State.{marked, valueOf, journalOf}
 use Rattle.rules.specs.Sound.{goodPin, isKey, goodValue, soundValue, goodChallenge, soundChallenge, soundResponse, sound}
 use Rattle.rules.proofs.Checks.{one-of, either}
 use Rattle.rules.proofs.Targets.{some-lies, lies-there}
@@ -181,31 +183,6 @@ module _ (f : File) where
           (λ o. rw (ne-eqb (f .kind) 0x2C o) (eq-eqb (bytesUsed f) 0 (s .not-variable o)))
 
 -- an unused place
-unused-to : (f : File) → unusedPlace f ≡ true → f ≡ blankFile
-unfolding unusedPlace
-unused-to f h =
-    let e = each
-    (isZero (f .fid1) ∷ isZero (f .fid2) ∷ isZero (f .kind) ∷ isZero (f .size1) ∷ isZero (f .size2) ∷ isZero (f .read) ∷ isZero (f .write) ∷ isZero (f .held)
-    ∷ isZero (f .newest) ∷ isZero (f .used1) ∷ isZero (f .used2) ∷ isZero (f .folder) ∷ []) h in
-    let whole : _≡_ {A = File}
-    (record { fid1 = f .fid1; fid2 = f .fid2; kind = f .kind; size1 = f .size1; size2 = f .size2; read = f .read; write = f .write; held = f .held; newest = f .newest; used1 = f .used1; used2 = f .used2; folder = f .folder })
-    blankFile =
-    rw (
-      eqb-true (f .fid1) 0 (e .0),
-      eqb-true (f .fid2) 0 (e .1 .0),
-      eqb-true (f .kind) 0 (e .1 .1 .0),
-      eqb-true (f .size1) 0 (e .1 .1 .1 .0),
-      eqb-true (f .size2) 0 (e .1 .1 .1 .1 .0),
-      eqb-true (f .read) 0 (e .1 .1 .1 .1 .1 .0),
-      eqb-true (f .write) 0 (e .1 .1 .1 .1 .1 .1 .0),
-      eqb-true (f .held) 0 (e .1 .1 .1 .1 .1 .1 .1 .0),
-      eqb-true (f .newest) 0 (e .1 .1 .1 .1 .1 .1 .1 .1 .0),
-      eqb-true (f .used1) 0 (e .1 .1 .1 .1 .1 .1 .1 .1 .1 .0),
-      eqb-true (f .used2) 0 (e .1 .1 .1 .1 .1 .1 .1 .1 .1 .1 .0),
-      eqb-true (f .folder) 0 (e .1 .1 .1 .1 .1 .1 .1 .1 .1 .1 .1),
-    ) in
-    whole
-
 to-unused : (f : File) → f ≡ blankFile → unusedPlace f ≡ true
 unfolding unusedPlace
 to-unused f e = rw e
@@ -221,14 +198,6 @@ folder-to x h =
 to-folder : (x : Folder) → SoundFolder (tagOf x) → goodFolder x ≡ true
 unfolding goodFolder
 to-folder x s = join (join (le-leb 1 (folderFid x % 32) (s .fid .0)) (le-leb (folderFid x % 32) 30 (s .fid .1))) (to-right (x .right) (s .right))
-
-blank-to : (x : Folder) → unusedFolder x ≡ true → x ≡ blankFolder
-unfolding unusedFolder
-blank-to x h =
-    let e = each (isZero (x .fid1) ∷ isZero (x .fid2) ∷ isZero (x .right) ∷ []) h in
-    let whole : _≡_ {A = Folder} (record { fid1 = x .fid1; fid2 = x .fid2; right = x .right }) blankFolder =
-    rw (eqb-true (x .fid1) 0 (e .0), eqb-true (x .fid2) 0 (e .1 .0), eqb-true (x .right) 0 (e .1 .1)) in
-    whole
 
 to-blank : (x : Folder) → x ≡ blankFolder → unusedFolder x ≡ true
 unfolding unusedFolder
@@ -311,7 +280,7 @@ module _ (c : Card) (area : List ℕ) (h : sound c area ≡ true) where
         places = g .places;
         few = g .few;
         each = λ n t. folder-to (folderNo c n) (folder-good (d .folders) (d .number) g (n - 1) (omega (arith, t .first, t .last)));
-        unused = λ n l m. blank-to (folderNo c n) (rw (le-ltb (n - 1) (d .number) (omega (arith, l))) at (g .each-folder (n - 1) (omega (arith, l, m))));
+        unused = λ n l m. unused-folder (folderNo c n) (rw (le-ltb (n - 1) (d .number) (omega (arith, l))) at (g .each-folder (n - 1) (omega (arith, l, m))));
         one-fid = λ n m tn tm e.
             let q = one-fid d (sound-good c area h .directory) (n - 1) (m - 1) (omega (arith, tn .first, tn .last)) (omega (arith, tm .first, tm .last)) e in
             omega (arith, q, tn .first, tm .first);
@@ -331,7 +300,7 @@ module _ (c : Card) (area : List ℕ) (h : sound c area ≡ true) where
         room = rw ends (g .room);
         inside = rw ends (subst (λ n. startAt (d .files) n ≤ length area) u (p .room));
         each = each-file;
-        unused = λ n l m. unused-to (fileNo c n) (rw (le-ltb (n - 1) (d .count) (omega (arith, l))) at (g .each-place (n - 1) (omega (arith, l, m))));
+        unused = λ n l m. unused-blank (fileNo c n) (rw (le-ltb (n - 1) (d .count) (omega (arith, l))) at (g .each-place (n - 1) (omega (arith, l, m))));
         housed = λ n t. leb-true _ _ (home (n - 1) (omega (arith, t .first, t .last)) .0);
         one-sfi = λ folder n m tn tm e.
             let q = one-sfi d (sound-good c area h .directory) (n - 1) (m - 1) (omega (arith, tn .there .first, tn .there .last)) (omega (arith, tm .there .first, tm .there .last))
@@ -482,6 +451,7 @@ sound-both-ways c area = (
         waiting = record { as-many = r .size; most = r .few; rest = rest-to (waitNo c) (c .response .bytes) (r .rest) };
         none-wait = λ z.
             one-of (marked (c .response .mode)) (isZero (waitNo c)) (r .none) (λ t. absurd (omega (arith, z, eqb-true (c .response .mode) 1 t))) (λ t. eqb-true _ _ t);
+        no-journal = (ap (λ (j : Journal). j .what) (g .journal), ap (λ (j : Journal). j .bytes) (g .journal));
       },
   λ s.
       sound-both c area
@@ -499,5 +469,6 @@ sound-both-ways c area = (
             (eqb (length (c .response .bytes)) 256 ∷ leb (c .response .mode) 1 ∷ leb (waitNo c) 256 ∷ (marked (c .response .mode) || isZero (waitNo c))
             ∷ allOf isZero (drop (waitNo c) (c .response .bytes)) ∷ [])
             (eq-eqb _ _ (s .waiting .as-many), (le-leb _ _ (s .mode), (le-leb _ _ (s .waiting .most), (waits-none c s, to-rest (waitNo c) (c .response .bytes) (s .waiting .rest)))));
+        journal = ap₂ journalOf (s .no-journal .0) (s .no-journal .1);
       }) (parted-back c area (s .files) (s .folders)),
 )

@@ -69,6 +69,7 @@ pub record AllZero (c : Card) : Type 0 where
   pub mode-is : c .response .mode ≡ 0
   pub counts-are : (c .response .count1 ≡ 0) × (c .response .count2 ≡ 0)
   pub waiting-are : c .response .bytes ≡ replicate 256 0
+  pub journal-is : (c .journal .what ≡ 0) × (c .journal .bytes ≡ replicate 17 0)
 
 abbrev pub BlankZero : Type 0
 BlankZero = AllZero blankCard

@@ -30,6 +30,7 @@ withKeyTries c left = record {
   directory = c .directory;
   session = c .session;
   response = c .response;
+  journal = c .journal;
 }
 
 -- a condition, with the word or the number of its refusal: where it does not hold the refusal, where it holds what comes next

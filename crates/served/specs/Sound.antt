@@ -1,10 +1,10 @@
--- A state is sound when all this holds: document 01's list, with what R-1, R-5 to R-7 and R-9 add to it, over the state's fields. The rules' test says just that.
+-- A state is sound when all this holds: document 01's list, with what R-1, R-5 to R-7, R-9 and R-10 add to it, over the state's fields. The rules' test says just that.
 use Prim.Native.Nat.{ℕ, _+_, _*_, _%_, _≤_, _<_}
 use mathlib.Core.Bool.{true}
 use mathlib.Core.List.{List, [], _∷_}
 use mathlib.Core.Logic.{_⊎_}
 use mathlib.Core.Path.{_≡_}
-use lib.ListN.{length, take, drop}
+use lib.ListN.{length, take, drop, replicate}
 use Rattle.files.specs.declared.File.{File}
 use Rattle.files.specs.State.{blankFile, blankFolder}
 use Rattle.rules.specs.declared.Credential.{Credential}
@@ -77,7 +77,7 @@ abbrev pub waitNo : Card → ℕ
 waitNo c = c .response .count1 * 256 + c .response .count2
 
 -- four credentials, the last of which has no right; the current directory exists, and the current file lies in it; a challenge of 4, 8 or 16 bytes or none;
--- at most 256 bytes wait, and none in mode 0
+-- at most 256 bytes wait, and none in mode 0; the journal is 00
 pub record Sound (c : Card) (area : List ℕ) : Type 0 where
   pub four : length (c .credentials) ≡ 4
   pub three-rights : length (c .session .rights) ≡ 3
@@ -92,6 +92,7 @@ pub record Sound (c : Card) (area : List ℕ) : Type 0 where
   pub mode : c .response .mode ≤ 1
   pub waiting : Padded (waitNo c) 256 (c .response .bytes)
   pub none-wait : c .response .mode ≡ 0 → waitNo c ≡ 0
+  pub no-journal : (c .journal .what ≡ 0) × (c .journal .bytes ≡ replicate 17 0)
 
 abbrev pub SoundBothWays : Type 0
 SoundBothWays = (c : Card) (area : List ℕ) → (sound c area ≡ true → Sound c area) × (Sound c area → sound c area ≡ true)

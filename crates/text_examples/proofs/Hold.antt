@@ -14,7 +14,7 @@ use Rattle.files.specs.Walk.{stands, past, walk, parted}
 use Rattle.files.specs.Create.{goodContents, apart, goodFolder}
 use Rattle.files.specs.Sound.{soundFile, unusedPlace, sfisDiffer, unusedFolder, soundFolder, soundFolders, soundDirectory, partedArea}
 use Rattle.rules.specs.Words.{allOf, same}
-use Rattle.rules.specs.Sound.{goodPin, goodValue, soundValue, soundTries, soundCredential, soundChallenge, soundResponse, soundCurrent, soundState, sound}
+use Rattle.rules.specs.Sound.{goodPin, goodValue, soundValue, soundTries, soundCredential, soundChallenge, soundResponse, soundJournal, soundCurrent, soundState, sound}
 use Rattle.digits.specs.Digits.{digitsIn, decimal, hexDigit, hexOf, orDash, value}
 use Rattle.texts.specs.Text.{line, credentialLine, sessionLine, folderLine, folderLines, folderCount, heldOrUsed, fileLine, rows, contents, filesText, credentialLines, text}
 use Rattle.texts.specs.Reading.{skip, pair, hexIn, numberFrom, number, small, triesIn, credentialIn, homeIn, sessionIn, responseIn, fileIn, pairs, pastRow, rowsIn, behind, filesIn, bytesIn, folderIn, foldersIn, laid, foldered, withFiles, foldersRead, filesPart, cardIn, areaIn}
@@ -34,7 +34,7 @@ use Rattle.text_examples.specs.Rows.{table, EachHolds}
 
 -- whether rows hold, by computation: to unfold this is to unfold every definition that a row may need
 computed : List Row → Bool
-unfolding allBelow part over count recordLength size goodShape goodRights goodFileRights used startAt extent seek findFid findFolder bytesUsed soundHeld soundUsed partedFile stands past walk parted goodContents apart goodFolder soundFile unusedPlace sfisDiffer unusedFolder soundFolder soundFolders soundDirectory partedArea allOf same goodPin goodValue soundValue soundTries soundCredential soundChallenge soundResponse soundCurrent soundState sound digitsIn decimal hexDigit hexOf orDash value line credentialLine sessionLine folderLine folderLines folderCount heldOrUsed fileLine rows contents filesText credentialLines text skip pair hexIn numberFrom number small triesIn credentialIn homeIn sessionIn responseIn fileIn pairs pastRow rowsIn behind filesIn bytesIn folderIn foldersIn laid foldered withFiles foldersRead filesPart cardIn areaIn toText accepted fromText converted
+unfolding allBelow part over count recordLength size goodShape goodRights goodFileRights used startAt extent seek findFid findFolder bytesUsed soundHeld soundUsed partedFile stands past walk parted goodContents apart goodFolder soundFile unusedPlace sfisDiffer unusedFolder soundFolder soundFolders soundDirectory partedArea allOf same goodPin goodValue soundValue soundTries soundCredential soundChallenge soundResponse soundJournal soundCurrent soundState sound digitsIn decimal hexDigit hexOf orDash value line credentialLine sessionLine folderLine folderLines folderCount heldOrUsed fileLine rows contents filesText credentialLines text skip pair hexIn numberFrom number small triesIn credentialIn homeIn sessionIn responseIn fileIn pairs pastRow rowsIn behind filesIn bytesIn folderIn foldersIn laid foldered withFiles foldersRead filesPart cardIn areaIn toText accepted fromText converted
 computed = allHold
 
 pub documented-hold : allHold documented ≡ true

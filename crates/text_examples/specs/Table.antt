@@ -32,6 +32,7 @@ numbers c =
     credentialsNumbers (c .credentials) ++ filesNumbers (c .directory .files) ++ (c .directory .count ∷ []) ++ foldersNumbers (c .directory .folders) ++ (c .directory .number ∷ []) ++ c .session .rights
     ++ (c .session .current ∷ c .session .len ∷ c .session .folder ∷ []) ++ c .session .challenge
     ++ (c .response .mode ∷ c .response .count1 ∷ c .response .count2 ∷ []) ++ c .response .bytes
+    ++ (c .journal .what ∷ c .journal .bytes)
 
 -- a buffer and an area that were in use
 abbrev pub filler : ℕ → List ℕ
@@ -53,7 +54,7 @@ reads g outcome card area =
 
 -- a blank state, all zero
 abbrev pub blank : List ℕ
-blank = replicate 563 0
+blank = replicate 581 0
 
 -- a text is accepted, or is not
 abbrev pub agree : Bool → Bool → Bool

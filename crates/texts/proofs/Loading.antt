@@ -23,11 +23,12 @@ use Rattle.rules.specs.declared.Tries.{Tries}
 use Rattle.rules.specs.declared.Credential.{Credential}
 use Rattle.rules.specs.declared.Session.{Session}
 use Rattle.rules.specs.declared.Response.{Response}
+use Rattle.rules.specs.declared.Journal.{Journal}
 use Rattle.rules.specs.declared.Card.{Card}
 use Rattle.rules.specs.declared.Answer.{Answer}
 use Rattle.rules.specs.Calls.{answer}
 use Rattle.rules.specs.Words.{byte, same}
-use Rattle.rules.specs.State.{howManyRights, responseSize, responseOf, blankCard}
+use Rattle.rules.specs.State.{howManyRights, responseSize, responseOf, noJournal, blankCard}
 use Rattle.rules.specs.Sound.{sound}
 use Rattle.texts.specs.Text.{Form, new, text, ofForm}
 use Rattle.digits.specs.Page.{Draws}
@@ -122,11 +123,11 @@ directory-loaded form s lines rest image left e d n hl he hn hr size l =
     let r : rest ≡ skips (length (foldersIn (mostFoldersOf form) (foldersPart form s)) + length (foldersIn (mostFoldersOf form) (foldersPart form s))) (foldersPart form s) = hr ∙ rw (m, hl) in
     record { directory-is = l .directory-is ∙ rw (size, r, he, hl); left-is = l .left-is ∙ rw (size, r) }
 
-pub card-loaded : (form : Form) (s image left : List ℕ) (v a u t : Credential) (d : Directory) (ss : Session) (rs : Response) (x : Card) → v ≡ credentialIn s → a ≡ credentialIn (skips 3 s) → u ≡ credentialIn (skips 6 s)
-    → t ≡ credentialIn (skips 9 s) → LoadsDirectory form s image d left → ss ≡ sessionIn d (sessionPart s) → rs ≡ responseIn (sessionPart s)
-    → x ≡ record { credentials = v ∷ a ∷ u ∷ t ∷ []; directory = d; session = ss; response = rs } → LoadsCard form s image x left
+pub card-loaded : (form : Form) (s image left : List ℕ) (v a u t : Credential) (d : Directory) (ss : Session) (rs : Response) (js : Journal) (x : Card) → v ≡ credentialIn s → a ≡ credentialIn (skips 3 s) → u ≡ credentialIn (skips 6 s)
+    → t ≡ credentialIn (skips 9 s) → LoadsDirectory form s image d left → ss ≡ sessionIn d (sessionPart s) → rs ≡ responseIn (sessionPart s) → js ≡ noJournal
+    → x ≡ record { credentials = v ∷ a ∷ u ∷ t ∷ []; directory = d; session = ss; response = rs; journal = js } → LoadsCard form s image x left
 unfolding cardIn
-card-loaded form s image left v a u t d ss rs x hv ha hu ht l hs hr h = record { card-is = h ∙ rw (hs, hr, l .directory-is, hv, ha, hu, ht); left-is = l .left-is }
+card-loaded form s image left v a u t d ss rs js x hv ha hu ht l hs hr hj h = record { card-is = h ∙ rw (hs, hr, hj, l .directory-is, hv, ha, hu, ht); left-is = l .left-is }
 
 -- the text of a sound card, drawn on a page that takes it
 abbrev size₀ : ℕ

@@ -20,7 +20,8 @@ use Rattle.files.specs.State.{blankFile, blankFolder}
 use Rattle.files.specs.Types.{size}
 use Rattle.files.specs.Directory.{mostFiles, fid, sfi, goodSfi, used, fileAt, startAt, file, start, extent, end, ofFid, ofSfi, here, findFid, folderFid, folderAt, folder, folderHere, findFolder}
 use Rattle.files.specs.Create.{areaSize, goodFolder, housed, apart}
-use Rattle.files.specs.Sound.{soundFile, unusedPlace, alone, unusedFolder, soundFolder}
+use Rattle.files.specs.Sound.{soundFile, alone, soundFolder}
+use Rattle.files.proofs.Blank.{unused-blank, unused-folder}
 use Rattle.files.proofs.Checks.{both, each, join, split, clash}
 use Rattle.files.proofs.Extents.{used-is, start-next}
 use Rattle.files.proofs.Sought.{seek-absent}
@@ -34,7 +35,7 @@ use Rattle.rules.specs.declared.Response.{Response}
 use Rattle.rules.specs.declared.Card.{Card}
 use Rattle.rules.specs.Calls.{answer}
 use Rattle.rules.specs.Words.{byte, allOf, same}
-use Rattle.rules.specs.State.{Which, device, admin, user, transport, whiches, numberOf, noCredential, credential, valueOf, challenge, responseSize, waitCount}
+use Rattle.rules.specs.State.{Which, device, admin, user, transport, whiches, numberOf, noCredential, credential, valueOf, challenge, responseSize, waitCount, withJournal}
 use Rattle.rules.specs.Sound.{goodValue, soundValue, goodChallenge, soundChallenge, soundResponse, sound}
 use Rattle.rules.proofs.Good.{Good, Lies, Tried, numbered, sound-good, sound-parted, sound-both, said-short, responded}
 use Rattle.rules.proofs.Equal.{same-equal, equal-same}
@@ -159,35 +160,7 @@ current-bytes : (d : Directory) (cur : ℕ) → ((i : ℕ) → FileBytes (fileAt
 current-bytes d zero b = bytes-nil
 current-bytes d (suc i) b = rw (current-some d i) (fid-bytes (fileAt (d .files) i) (b i))
 
--- places past the last file are blank
-unused-blank : (f : File) → unusedPlace f ≡ true → f ≡ blankFile
-unfolding unusedPlace
-unused-blank f h =
-    let e =
-    each (isZero (f .fid1) ∷ isZero (f .fid2) ∷ isZero (f .kind) ∷ isZero (f .size1) ∷ isZero (f .size2) ∷ isZero (f .read) ∷ isZero (f .write) ∷ isZero (f .held) ∷ isZero (f .newest)
-    ∷ isZero (f .used1) ∷ isZero (f .used2) ∷ isZero (f .folder) ∷ []) h in
-    rw (
-      eqb-true (f .fid1) 0 (e .0),
-      eqb-true (f .fid2) 0 (e .1 .0),
-      eqb-true (f .kind) 0 (e .1 .1 .0),
-      eqb-true (f .size1) 0 (e .1 .1 .1 .0),
-      eqb-true (f .size2) 0 (e .1 .1 .1 .1 .0),
-      eqb-true (f .read) 0 (e .1 .1 .1 .1 .1 .0),
-      eqb-true (f .write) 0 (e .1 .1 .1 .1 .1 .1 .0),
-      eqb-true (f .held) 0 (e .1 .1 .1 .1 .1 .1 .1 .0),
-      eqb-true (f .newest) 0 (e .1 .1 .1 .1 .1 .1 .1 .1 .0),
-      eqb-true (f .used1) 0 (e .1 .1 .1 .1 .1 .1 .1 .1 .1 .0),
-      eqb-true (f .used2) 0 (e .1 .1 .1 .1 .1 .1 .1 .1 .1 .1 .0),
-      eqb-true (f .folder) 0 (e .1 .1 .1 .1 .1 .1 .1 .1 .1 .1 .1),
-    )
-
--- and past the last directory
-unused-folder : (x : Folder) → unusedFolder x ≡ true → x ≡ blankFolder
-unfolding unusedFolder
-unused-folder x h =
-    let e = each (isZero (x .fid1) ∷ isZero (x .fid2) ∷ isZero (x .right) ∷ []) h in
-    rw (eqb-true (x .fid1) 0 (e .0), eqb-true (x .fid2) 0 (e .1 .0), eqb-true (x .right) 0 (e .1 .1))
-
+-- places past the last directory are blank, and past the last file
 folder-blank : (folders : List Folder) (number : ℕ) → Foldered folders number → (i : ℕ) → number ≤ i → i < 4 → folderAt folders i ≡ blankFolder
 unfolding soundFolder
 folder-blank folders number g i h l = unused-folder (folderAt folders i) (rw (le-ltb i number h) at (g .each-folder i l))
@@ -387,7 +360,7 @@ module _ (form : Form) (c : Card) (area : List ℕ) (ok : SoundCard form c area)
 
   pub card-is : cardIn form (text form c area) ≡ c
   unfolding cardIn
-  card-is = rw (directory-is, credentials-are, session-is, response-is)
+  card-is = rw (directory-is, credentials-are, session-is, response-is) (ap (withJournal c) (sym (g .journal)))
 
   -- the text has the bytes of the files and no others
   pub text-kept : (b : Form) → text b c (kept c area) ≡ text b c area

@@ -23,7 +23,7 @@ use Rattle.rules.specs.declared.Session.{Session}
 use Rattle.rules.specs.declared.Response.{Response}
 use Rattle.rules.specs.declared.Card.{Card}
 use Rattle.rules.specs.Words.{byte, filled}
-use Rattle.rules.specs.State.{whiches, numberOf, howMany, howManyRights, credentialOf, responseSize, responseOf}
+use Rattle.rules.specs.State.{whiches, numberOf, howMany, howManyRights, credentialOf, responseSize, responseOf, noJournal}
 use Rattle.texts.specs.Text.{Form, holders, linesFor}
 
 -- a tab or a newline ends a field
@@ -217,6 +217,7 @@ cardIn form s = record {
   directory = directoryIn form s;
   session = sessionIn (directoryIn form s) (sessionPart s);
   response = responseIn (sessionPart s);
+  journal = noJournal;
 }
 
 -- area bytes past the last file are 00

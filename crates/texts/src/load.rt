@@ -17,6 +17,7 @@ use crate::scan::number_in;
 use crate::scan::pairs_in;
 use crate::scan::skips;
 use crate::scan::small_in;
+use card::state::no_journal;
 use card::state::response_of;
 use files::Directory;
 use files::File;
@@ -307,10 +308,12 @@ pub(crate) fn card_in(form: bool, s: &[u8], image: &mut [u8]) -> Card
     let directory = directory_in(form, s, image);
     let session = session_in(directory, rest);
     let response = response_in(rest);
+    let journal = no_journal();
     Card {
         credentials,
         directory,
         session,
         response,
+        journal,
     }
 }

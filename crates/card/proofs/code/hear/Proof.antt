@@ -21,7 +21,7 @@ returns c =
     no-code (a .front) (a .card) (codedOf (a .h) [] (now (a .code)) (now (a .covered))) (c .quietly .result) (c .before .if1 .taken) (c .quietly .ensures)
 
 tries-at-requires : tie.Need-tries-at-requires
-tries-at-requires c κs = omega arith
+tries-at-requires c κs = tt
 
 tries-sw-requires : tie.Need-tries-sw-requires
 tries-sw-requires c κs = tt
@@ -50,7 +50,7 @@ returns-2 c =
     (o .or-else2 .result) asked (c .before .if2 .taken) (c .quietly2 .ensures)
 
 is-code-requires : tie.Need-is-code-requires
-is-code-requires c κs = c .before .before .before .before .before .before .before .before .before .before .pre .0
+is-code-requires c κs = tt
 
 presented-requires : tie.Need-presented-requires
 presented-requires c κs = tt
@@ -63,7 +63,7 @@ returns-3 c =
     let a = s .args in
     let asked : o .or-else2 .result ≡ orElse (a .front) (orElse (triesSw (login transport (a .card))) (challengeSw (challenge (a .card)))) =
     o .or-else2 .ensures ∙ rw (o .before .or-else .ensures, o .before .before .challenge-sw .ensures, t .tries-sw .ensures, t .before .tries-at .ensures) in
-    presented-code (a .front) (a .card) (codedOf (a .h) [] (now (a .code)) (now (a .covered))) (c .presented .result) (t .before .before .if1 .left) (s .pre .1)
+    presented-code (a .front) (a .card) (codedOf (a .h) [] (now (a .code)) (now (a .covered))) (c .presented .result) (t .before .before .if1 .left) (s .pre .1) (s .pre .0)
     (o .or-else2 .result) asked (c .before .before .if2 .left) (c .before .is-code .result) (c .before .is-code .ensures) (c .presented .ensures)
 
 pub hear-spec : {M : Type 1} → statement M

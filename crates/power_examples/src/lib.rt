@@ -1,0 +1,1 @@
+// Rows alone: what commands store, and what recovery makes of each cut.
