@@ -1,5 +1,5 @@
 -- A card in use, and what is seen of it.
-use Prim.Native.Nat.{ℕ}
+use Prim.Native.Nat.{ℕ, zero, suc}
 use mathlib.Core.Bool.{false}
 use mathlib.Core.List.{List, [], _∷_, _++_}
 use lib.ListN.{replicate}
@@ -70,6 +70,14 @@ key c = credential c 3 .tries .left ∷ []
 -- how many files and directories
 abbrev pub counts : Card → List ℕ
 counts c = c .directory .count ∷ c .directory .number ∷ []
+
+-- a card of sixteen empty cyclic files of two records of one byte, and an area in which all is 00
+abbrev pub shelved : ℕ → Directory
+shelved zero = noFiles
+shelved (suc n) = oneMore (shelved n) (newFile 0x01 (suc n) 0x2E 2 1 0 0)
+
+abbrev pub crowded : Card
+crowded = withDirectory (withSession (fresh (record { given = given; mode = 0 })) session) (shelved 16)
 
 -- the card with this in the journal
 abbrev pub noting : ℕ → List ℕ → Card → Card

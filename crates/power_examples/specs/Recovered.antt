@@ -5,11 +5,12 @@ use mathlib.Core.List.{List, [], _∷_, _++_}
 use lib.ListN.{length, replicate}
 use Rattle.files.specs.State.{newFile, newFolder, withFiles, withFolders}
 use Rattle.files.specs.Part.{zeros}
+use Rattle.files.specs.Directory.{file}
 use Rattle.rules.specs.declared.Card.{Card}
 use Rattle.rules.specs.State.{user, challenge, waiting, withDirectory, withWaiting, withLogin}
 use Rattle.power.specs.Store.{alter}
 use Rattle.power_examples.specs.Table.{Row, recovered}
-use Rattle.power_examples.specs.Cards.{area, card, asked, list, pin, counts, noting}
+use Rattle.power_examples.specs.Cards.{area, card, asked, list, pin, counts, noting, crowded}
 
 -- what the journal holds, and what does not last: rights, current file and directory, challenge, waiting bytes
 abbrev pub noted : Card → List ℕ
@@ -22,6 +23,10 @@ unlasting c = c .session .rights ++ (c .session .current ∷ c .session .folder 
 abbrev pub new-pin : List ℕ
 new-pin = replicate 6 0x32 ++ (replicate 10 0 ++ (6 ∷ []))
 
+-- how many records the last two of sixteen files hold
+abbrev pub last-held : Card → List ℕ
+last-held c = file (c .directory) 15 .held ∷ file (c .directory) 16 .held ∷ []
+
 -- a committed journal is carried out: a PIN, and what a file knows of its records; bytes that are not committed are cleared
 abbrev pub journals : List Row
 journals =
@@ -31,6 +36,7 @@ journals =
     ∷ recovered (noting 0 new-pin card) area 0 pin (3 ∷ replicate 6 0x31)
     ∷ recovered (noting 0 (replicate 17 0xFF) card) area 0 noted (zeros 18)
     ∷ recovered (noting 16 (1 ∷ 0 ∷ zeros 15) card) area 0 (λ c. list 1 c area) (10 ∷ [])
+    ∷ recovered (noting 31 (1 ∷ 0 ∷ zeros 15) crowded) (zeros 4096) 0 last-held (0 ∷ 1 ∷ [])
     ∷ recovered (noting 17 (0 ∷ 0 ∷ 0 ∷ 0 ∷ zeros 13) card) area 4 noted (17 ∷ zeros 17)
     ∷ []
 
