@@ -57,7 +57,7 @@ uint32_t limpet_version(void);
  * The bytes of stack that are enough for a call: on a card, of its two calls
  * for a text and the two that convert one, of limpet_aes128, and of limpet_code.
  */
-#define LIMPET_CARD_STACK 7168
+#define LIMPET_CARD_STACK 5632
 #define LIMPET_TEXT_STACK 18432
 #define LIMPET_AES128_STACK 512
 #define LIMPET_CODE_STACK 768

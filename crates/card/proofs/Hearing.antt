@@ -1,10 +1,10 @@
 -- The three ways out of a command with or without a code.
 -- Assumes nothing.
 use Prim.Native.Nat.{ℕ}
-use mathlib.Core.Bool.{Bool, cond, _&&_}
+use mathlib.Core.Bool.{Bool, true, false, cond, _&&_}
 use mathlib.Core.List.{List, [], _∷_}
 use mathlib.Core.Logic.{by-cases}
-use mathlib.Core.Path.{_≡_, sym, ap, _∙_}
+use mathlib.Core.Path.{_≡_, refl, sym, ap, _∙_}
 use native.Mathlib.Decide.{ℕ-discrete}
 use lib.Dec.{eqb}
 use borrow.Author.Tests.{eq-eqb, ne-eqb}
@@ -17,9 +17,11 @@ use Rattle.rules.specs.Pins.{triesSw}
 use Rattle.rules.specs.Device.{challengeSw}
 use Rattle.rules.specs.Code.{agrees, codeSw, presentsCode, keyAfter, credentialsAfter}
 use Rattle.rules.proofs.Checks.{passed, passing}
-use Rattle.card.specs.declared.Carried.{Carried}
-use Rattle.card.specs.Carried.{carried}
-use Rattle.card.specs.Coded.{codeGiven, Hears}
+use Rattle.card.specs.declared.Heard.{Heard}
+use Rattle.card.specs.Credentials.{tried}
+use Rattle.card.specs.Carried.{withKeyLeft}
+use Rattle.card.specs.Coded.{codeGiven, heardSo, Hears}
+use Rattle.card.proofs.Sparing.{same-left}
 
 -- 9000 behind a check is nothing
 last-good : (a : ℕ) → a ≡ orElse a 0x9000
@@ -42,12 +44,12 @@ all-good : {a b c : ℕ} (d : ℕ) → a ≡ 0x9000 → b ≡ 0x9000 → c ≡ 0
 unfolding orElse
 all-good d p q r = rw (p, q, r)
 
-module _ (front : ℕ) (c : Card) (k : Command) (r : Carried) where
-  pub no-code : (k .cla ≡ 0x04 → ⊥) → r ≡ carried c front 0 0 → Hears front c k r
+module _ (front : ℕ) (c : Card) (k : Command) (r : Heard) where
+  pub no-code : (k .cla ≡ 0x04 → ⊥) → r ≡ heardSo front (credential c 3 .tries .left) → Hears front c k r
   unfolding credentialsAfter presentsCode codeSw
   no-code n e = record {
-    card-is = ap (λ (x : Carried). x .card) e ∙ rw (ne-eqb (k .cla) 0x04 n);
-    sw-is = ap (λ (x : Carried). x .sw) e ∙ rw (ne-eqb (k .cla) 0x04 n) (last-good front);
+    left-is = ap (λ (x : Heard). withKeyLeft c (x .left)) e ∙ same-left c ∙ rw (ne-eqb (k .cla) 0x04 n);
+    sw-is = ap (λ (x : Heard). x .sw) e ∙ rw (ne-eqb (k .cla) 0x04 n) (last-good front);
   }
 
   module _ (e : k .cla ≡ 0x04) (good : orElse (frameSw k) (classSw k) ≡ 0x9000) where
@@ -65,24 +67,29 @@ module _ (front : ℕ) (c : Card) (k : Command) (r : Carried) where
     code-is = ap (λ (b : Bool). cond b (first (triesSw (login transport c) ∷ challengeSw (challenge c) ∷ unless (agrees (logins c) (challenge c) k) 0x6988 ∷ [])) 0x9000) (eq-eqb (k .cla) 0x04 e)
 
     pub refused-code : (sw : ℕ) → sw ≡ orElse front (orElse (triesSw (login transport c)) (challengeSw (challenge c))) → (sw ≡ 0x9000 → ⊥)
-        → r ≡ carried c sw 0 0 → Hears front c k r
+        → r ≡ heardSo sw (credential c 3 .tries .left) → Hears front c k r
     unfolding credentialsAfter
     refused-code sw is n a =
         let m : orElse front (orElse (triesSw (login transport c)) (challengeSw (challenge c))) ≡ 0x9000 → ⊥ = λ z. n (is ∙ z) in
         record {
-          card-is = ap (λ (x : Carried). x .card) a ∙ rw (test-is, ne-eqb _ 0x9000 m);
-          sw-is = ap (λ (x : Carried). x .sw) a ∙ is ∙ rw code-is (refused-early front _ _ _ m);
+          left-is = ap (λ (x : Heard). withKeyLeft c (x .left)) a ∙ same-left c ∙ rw (test-is, ne-eqb _ 0x9000 m);
+          sw-is = ap (λ (x : Heard). x .sw) a ∙ is ∙ rw code-is (refused-early front _ _ _ m);
         }
+
+    -- the limit stays
+    key-after : (right : Bool) → withKeyLeft c (tried (credential c 3 .tries) right .left) ≡ withCredential c 3 (keyAfter (credential c 3) right)
+    key-after true = refl
+    key-after false = refl
 
     pub presented-code : valueOf (credential c 3) ≡ credential c 3 .value → (sw : ℕ) → sw ≡ orElse front (orElse (triesSw (login transport c)) (challengeSw (challenge c))) → sw ≡ 0x9000
         → (right : Bool) → right ≡ codeGiven c (k .covered) (k .code)
-        → r ≡ carried (withCredential c 3 (keyAfter (credential c 3) right)) (unless right 0x6988) 0 0 → Hears front c k r
+        → r ≡ heardSo (unless right 0x6988) (tried (credential c 3 .tries) right .left) → Hears front c k r
     unfolding credentialsAfter
     presented-code whole sw is n right given a =
         let f : right ≡ agrees (logins c) (challenge c) k = given ∙ ap (λ (v : List ℕ). same (code (mac v (filled (challenge c)) (k .covered))) (k .code)) (sym whole) in
         let g : orElse front (orElse (triesSw (login transport c)) (challengeSw (challenge c))) ≡ 0x9000 = sym is ∙ n in
         let w = passed (front ∷ triesSw (login transport c) ∷ challengeSw (challenge c) ∷ []) g in
         record {
-          card-is = ap (λ (x : Carried). x .card) a ∙ rw (test-is, eq-eqb _ 0x9000 g, f);
-          sw-is = ap (λ (x : Carried). x .sw) a ∙ ap (λ (b : Bool). unless b 0x6988) f ∙ rw code-is (all-good _ (w .0) (w .1 .0) (w .1 .1 .0));
+          left-is = ap (λ (x : Heard). withKeyLeft c (x .left)) a ∙ key-after right ∙ rw (test-is, eq-eqb _ 0x9000 g, f);
+          sw-is = ap (λ (x : Heard). x .sw) a ∙ ap (λ (b : Bool). unless b 0x6988) f ∙ rw code-is (all-good _ (w .0) (w .1 .0) (w .1 .1 .0));
         }

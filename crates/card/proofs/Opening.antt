@@ -1,9 +1,9 @@
--- P, case and code passed or refused, and the command behind them on the card that the code leaves.
+-- P, case and code passed or refused, and the command behind them with the tries that the code leaves.
 -- Assumes nothing.
 use Prim.Native.Nat.{ℕ, _+_, _-_}
-use mathlib.Core.Bool.{Bool, true, false, and-false}
+use mathlib.Core.Bool.{true, false, and-false}
 use mathlib.Core.List.{List, [], _∷_}
-use mathlib.Core.Path.{_≡_, refl, sym, ap, ap₂, _∙_, subst}
+use mathlib.Core.Path.{_≡_, refl, sym, ap, ap₂, _∙_}
 use lib.Dec.{eqb}
 use borrow.Author.Tests.{eq-eqb, ne-eqb}
 use lib.ListN.{take, drop}
@@ -13,7 +13,7 @@ use Rattle.rules.specs.declared.Card.{Card}
 use Rattle.rules.specs.declared.Ins.{Ins}
 use Rattle.rules.specs.declared.Ins.the-variants.{Select, ReadBinary, UpdateBinary, ReadRecord, UpdateRecord, AppendRecord, Verify, Authenticate, ChangePin, ReloadPin, CreateFile, GetChallenge, GetResponse, Unlisted}
 use Rattle.rules.specs.Words.{byte, orElse, first}
-use Rattle.rules.specs.State.{transport, login, logins, challenge}
+use Rattle.rules.specs.State.{transport, credential, login, logins, challenge}
 use Rattle.rules.specs.Frame.{Command, lcBefore, framed, frameSw, classSw, coded}
 use Rattle.rules.specs.Select.{selectChecks}
 use Rattle.rules.specs.Binary.{target, readCount, readBinaryChecks, updateBinaryChecks}
@@ -24,16 +24,15 @@ use Rattle.rules.specs.Create.{fileGiven, folderGiven, goodFolderGiven, createC
 use Rattle.rules.specs.Effect.{Effect, answers}
 use Rattle.rules.specs.List.{Rule, ofFiles, ofContents, ofCredentials, rule}
 use Rattle.rules.specs.Code.{codeSw, presentsCode, credentialsAfter, afterCode}
-use Rattle.rules.specs.Step.{checksOf, keptBy, checks, kept, effectOf, ruled, outcome}
+use Rattle.rules.specs.Step.{checksOf, keptBy, effectBy, did, touched, checks, kept, effectOf, ruled, outcome}
 use Rattle.rules.proofs.Checks.{passed, passing}
-use Rattle.rules.proofs.Good.{sound-good, sound-parted, sound-both}
-use Rattle.rules.proofs.Coded.{coded-good}
 use Rattle.card.specs.declared.Header.{Header}
-use Rattle.card.specs.declared.Carried.{Carried}
+use Rattle.card.specs.declared.Heard.{Heard}
 use Rattle.card.specs.Head.{headOf, codedOf, commandOf}
-use Rattle.card.specs.Carried.{Ready, carried}
-use Rattle.card.specs.Coded.{takesCode, frontOf, openedBy, restOf, front, opened, rest, done, Hears, Opens}
+use Rattle.card.specs.Carried.{withKeyLeft}
+use Rattle.card.specs.Coded.{takesCode, frontOf, openedBy, restOf, doneBy, front, opened, rest, done, heardSo, Hears, Opens}
 use Rattle.card.proofs.Carrying.{stops}
+use Rattle.card.proofs.Sparing.{same-left, keyed, did-keyed, ruled-keyed, SparesBy, spares, touched-keyed}
 
 -- ---- checks in a row: the first two, and then the others
 module _ (a b own : ℕ) where
@@ -70,33 +69,31 @@ module _ (h : Header) (g x v : List ℕ) where
   front-covered GetResponse = refl
   front-covered Unlisted = refl
 
-  module _ (c : Card) (r : Carried) (sw : ℕ) where
-    heard-by : (q : Rule) → takesCode q ≡ true → sw ≡ first (frontOf q (codedOf h g x v)) → Hears sw c (codedOf h [] x v) r
-        → (r .card ≡ keptBy q c (codedOf h g x v)) × (r .sw ≡ openedBy q c (codedOf h g x v))
+  module _ (c : Card) (r : Heard) where
+    heard-by : (sw : ℕ) (q : Rule) → takesCode q ≡ true → sw ≡ first (frontOf q (codedOf h g x v)) → Hears sw c (codedOf h [] x v) r
+        → (withKeyLeft c (r .left) ≡ keptBy q c (codedOf h g x v)) × (r .sw ≡ openedBy q c (codedOf h g x v))
     unfolding credentialsAfter presentsCode codeSw
-    heard-by (ofFiles t d) y e w = clash false y refl
-    heard-by (ofContents f t d) y e w =
-        (w .card-is ∙ ap (λ (z : ℕ). afterCode (z ∷ []) c (codedOf h [] x v)) e, w .sw-is ∙ ap (λ (z : ℕ). orElse z (codeSw (logins c) (challenge c) (codedOf h [] x v))) e)
-    heard-by (ofCredentials t d) y e w = clash false y refl
+    heard-by sw (ofFiles t d) y e w = clash false y refl
+    heard-by sw (ofContents f t d) y e w =
+        (w .left-is ∙ ap (λ (z : ℕ). afterCode (z ∷ []) c (codedOf h [] x v)) e, w .sw-is ∙ ap (λ (z : ℕ). orElse z (codeSw (logins c) (challenge c) (codedOf h [] x v))) e)
+    heard-by sw (ofCredentials t d) y e w = clash false y refl
 
-    plain-by : (q : Rule) → takesCode q ≡ false → sw ≡ first (frontOf q (codedOf h g x v)) → r ≡ carried c sw 0 0
-        → (r .card ≡ keptBy q c (codedOf h g x v)) × (r .sw ≡ openedBy q c (codedOf h g x v))
-    plain-by (ofFiles t d) y e a = (ap (λ (z : Carried). z .card) a, ap (λ (z : Carried). z .sw) a ∙ e)
-    plain-by (ofContents f t d) y e a = clash true refl y
-    plain-by (ofCredentials t d) y e a = (ap (λ (z : Carried). z .card) a, ap (λ (z : Carried). z .sw) a ∙ e)
+    plain-by : (q : Rule) → takesCode q ≡ false → r ≡ heardSo 0x9000 (credential c 3 .tries .left)
+        → (withKeyLeft c (r .left) ≡ keptBy q c (codedOf h g x v)) × (r .sw ≡ openedBy q c (codedOf h g x v))
+    plain-by (ofFiles t d) y a = (ap (λ (z : Heard). withKeyLeft c (z .left)) a ∙ same-left c, ap (λ (z : Heard). z .sw) a)
+    plain-by (ofContents f t d) y a = clash true refl y
+    plain-by (ofCredentials t d) y a = (ap (λ (z : Heard). withKeyLeft c (z .left)) a ∙ same-left c, ap (λ (z : Heard). z .sw) a)
 
-    module _ (i : Ins) (e : sw ≡ first (front i (codedOf h g x []))) where
-      front-is : sw ≡ first (frontOf (rule i) (codedOf h g x v))
-      unfolding front
-      front-is = e ∙ front-covered i
+    module _ (i : Ins) where
+      pub opens-heard : (sw : ℕ) → sw ≡ first (front i (codedOf h g x [])) → takesCode (rule i) ≡ true → Hears sw c (codedOf h [] x v) r → Opens i c (codedOf h g x v) r
+      unfolding kept opened front
+      opens-heard sw e y w =
+          let p = heard-by sw (rule i) y (e ∙ front-covered i) w in
+          record { left-is = p .0; sw-is = p .1; plain = λ z. clash (takesCode (rule i)) y z }
 
-      pub opens-heard : takesCode (rule i) ≡ true → Hears sw c (codedOf h [] x v) r → Opens i c (codedOf h g x v) r
+      pub opens-plain : takesCode (rule i) ≡ false → r ≡ heardSo 0x9000 (credential c 3 .tries .left) → Opens i c (codedOf h g x v) r
       unfolding kept opened
-      opens-heard y w = let p = heard-by (rule i) y front-is w in record { card-is = p .0; sw-is = p .1 }
-
-      pub opens-plain : takesCode (rule i) ≡ false → r ≡ carried c sw 0 0 → Opens i c (codedOf h g x v) r
-      unfolding kept opened
-      opens-plain y a = let p = plain-by (rule i) y front-is a in record { card-is = p .0; sw-is = p .1 }
+      opens-plain y a = let p = plain-by (rule i) y a in record { left-is = p .0; sw-is = p .1; plain = λ z. ap (λ (z : Heard). z .left) a }
 
 -- ---- the command behind them
 module _ (c : Card) (k : Command) where
@@ -118,14 +115,13 @@ module _ (c : Card) (k : Command) where
       rest-off (a ∷ m) = sym (framed-off (first (f k)) (codeSw (logins c) (challenge c) k) (first (a ∷ m)) h)
   closed-by (ofCredentials t d) l h = absurd (h refl)
 
-  -- a sound card stays sound
-  kept-ready : (q : Rule) (area : List ℕ) → Ready c area → Ready (keptBy q c k) area
-  kept-ready (ofFiles t d) area w = w
-  kept-ready (ofContents f t d) area w = record {
-    is-sound = sound-both (afterCode (f k) c k) area (coded-good c (sound-good c area (w .is-sound)) (f k) k) (sound-parted c area (w .is-sound));
-    area-size = w .area-size;
-  }
-  kept-ready (ofCredentials t d) area w = w
+  -- what it does, with the tries that the code leaves
+  keyed-by : (q : Rule) (l : Located) (random : List ℕ) (n : ℕ) → withKeyLeft c n ≡ keptBy q c k → (takesCode q ≡ false → n ≡ credential c 3 .tries .left) → SparesBy q k c
+      → keyed n (doneBy q c l k random) ≡ effectBy q c l k random
+  keyed-by (ofFiles t d) l random n e same o = sym (did-keyed n c (d c l k)) ∙ ap (λ (z : Card). did z (d c l k)) e
+  keyed-by (ofContents f t d) l random n e same o = sym (did-keyed n c (d c l k)) ∙ ap (λ (z : Card). did z (d c l k)) e
+  keyed-by (ofCredentials t d) l random n e same o =
+      ap (λ (m : ℕ). keyed m (touched c (d (logins c) (challenge c) k) random)) (same refl) ∙ touched-keyed c (d (logins c) (challenge c) k) o random
 
 -- where framing or class refuses, no code was presented
 module _ (c : Card) (k : Command) (h : orElse (frameSw k) (classSw k) ≡ 0x9000 → ⊥) where
@@ -153,27 +149,14 @@ module _ (i : Ins) (c : Card) (l : Located) (k : Command) (random : List ℕ) wh
       ap (answers (orElse (frameSw k) (classSw k))) (sym (kept-framed c k h (rule i)))
       ∙ sym (stops _ (kept i c k) (effectOf i c l k random) h) ∙ ap (λ z. ruled z (kept i c k) (effectOf i c l k random)) (sym sw)
 
--- ---- behind a code the command is as it was: no check and no deed of the five looks at a credential
+-- ---- behind a code no check and no deed looks at it, or at what it covers
 module _ (c : Card) (area : List ℕ) (l : Located) (h : Header) (g x v random : List ℕ) where
-  same-found : (i : Ins) → recordFound (kept i c (codedOf h g x v)) area (commandOf h []) ≡ recordFound c area (codedOf h g x v)
-  unfolding kept rule recordFound target
-  same-found Select = refl
-  same-found ReadBinary = refl
-  same-found UpdateBinary = refl
-  same-found ReadRecord = refl
-  same-found UpdateRecord = refl
-  same-found AppendRecord = refl
-  same-found Verify = refl
-  same-found Authenticate = refl
-  same-found ChangePin = refl
-  same-found ReloadPin = refl
-  same-found CreateFile = refl
-  same-found GetChallenge = refl
-  same-found GetResponse = refl
-  same-found Unlisted = refl
+  same-found : recordFound c area (commandOf h []) ≡ recordFound c area (codedOf h g x v)
+  unfolding recordFound target
+  same-found = refl
 
-  same-rest : (i : Ins) → rest i (kept i c (codedOf h g x v)) l (commandOf h g) ≡ rest i c l (codedOf h g x v)
-  unfolding rest kept rule target selectChecks readBinaryChecks updateBinaryChecks readRecordChecks updateRecordChecks appendChecks verifyChecks changeChecks reloadChecks authenticateChecks getChallengeChecks createChecks readCount goodFolderGiven fileGiven
+  same-rest : (i : Ins) → rest i c l (commandOf h g) ≡ rest i c l (codedOf h g x v)
+  unfolding rest rule target selectChecks readBinaryChecks updateBinaryChecks readRecordChecks updateRecordChecks appendChecks verifyChecks changeChecks reloadChecks authenticateChecks getChallengeChecks createChecks readCount goodFolderGiven fileGiven
   same-rest Select = refl
   same-rest ReadBinary = refl
   same-rest UpdateBinary = refl
@@ -189,8 +172,8 @@ module _ (c : Card) (area : List ℕ) (l : Located) (h : Header) (g x v random :
   same-rest GetResponse = refl
   same-rest Unlisted = refl
 
-  same-done : (i : Ins) → done i (kept i c (codedOf h g x v)) l (commandOf h g) random ≡ effectOf i c l (codedOf h g x v) random
-  unfolding done effectOf kept rule target readCount folderGiven fileGiven
+  same-done : (i : Ins) → done i c l (commandOf h g) random ≡ done i c l (codedOf h g x v) random
+  unfolding done rule target readCount folderGiven fileGiven
   same-done Select = refl
   same-done ReadBinary = refl
   same-done UpdateBinary = refl
@@ -206,46 +189,50 @@ module _ (c : Card) (area : List ℕ) (l : Located) (h : Header) (g x v random :
   same-done GetResponse = refl
   same-done Unlisted = refl
 
-module _ (i : Ins) (c : Card) (area : List ℕ) (h : Header) (g x v random : List ℕ) (heard : Carried) (w : Opens i c (codedOf h g x v) heard) where
-  pub heard-ready : Ready c area → Ready (heard .card) area
-  unfolding kept
-  heard-ready r = subst (λ (z : Card). Ready z area) (sym (w .card-is)) (kept-ready c (codedOf h g x v) (rule i) area r)
+module _ (i : Ins) (c : Card) (area : List ℕ) (h : Header) (g x v random : List ℕ) (heard : Heard) (w : Opens i c (codedOf h g x v) heard) where
+  abbrev byCode : Effect
+  byCode = ruled (first (rest i c (recordFound c area (commandOf h [])) (commandOf h g))) c (done i c (recordFound c area (commandOf h [])) (commandOf h g) random)
 
   -- passed: the command itself
   opened-on : heard .sw ≡ 0x9000
-      → ruled (first (rest i (heard .card) (recordFound (heard .card) area (commandOf h [])) (commandOf h g))) (heard .card) (done i (heard .card) (recordFound (heard .card) area (commandOf h [])) (commandOf h g) random)
+      → keyed (heard .left) byCode
       ≡ ruled (first (checks i c (recordFound c area (codedOf h g x v)) (codedOf h g x v))) (kept i c (codedOf h g x v)) (effectOf i c (recordFound c area (codedOf h g x v)) (codedOf h g x v) random)
-  unfolding opened checks rest
+  unfolding opened checks rest done effectOf kept
   opened-on e =
-      ap (λ (z : Card). ruled (first (rest i z (recordFound z area (commandOf h [])) (commandOf h g))) z (done i z (recordFound z area (commandOf h [])) (commandOf h g) random)) (w .card-is)
-      ∙ ap (λ (l : Located). ruled (first (rest i (kept i c (codedOf h g x v)) l (commandOf h g))) (kept i c (codedOf h g x v)) (done i (kept i c (codedOf h g x v)) l (commandOf h g) random)) (same-found c area (recordFound c area (codedOf h g x v)) h g x v random i)
-      ∙ ap₂ (λ (m : List ℕ) (z : Effect). ruled (first m) (kept i c (codedOf h g x v)) z) (same-rest c area (recordFound c area (codedOf h g x v)) h g x v random i) (same-done c area (recordFound c area (codedOf h g x v)) h g x v random i)
-      ∙ ap (λ (n : ℕ). ruled n (kept i c (codedOf h g x v)) (effectOf i c (recordFound c area (codedOf h g x v)) (codedOf h g x v) random)) (passes e)
+      let k = codedOf h g x v in
+      let l = recordFound c area k in
+      let n = heard .left in
+      ap (λ (z : Located). keyed n (ruled (first (rest i c z (commandOf h g))) c (done i c z (commandOf h g) random))) (same-found c area l h g x v random)
+      ∙ ruled-keyed n (first (rest i c l (commandOf h g))) c (done i c l (commandOf h g) random)
+      ∙ ap₂ (λ (m : List ℕ) (z : Effect). ruled (first m) (withKeyLeft c n) (keyed n z)) (same-rest c area l h g x v random i) (same-done c area l h g x v random i)
+      ∙ ap₂ (λ (s : ℕ) (y : Card). ruled s y (keyed n (done i c l k random))) (passes e) (w .left-is)
+      ∙ ap (ruled (first (checks i c l k)) (kept i c k)) does-all
     where
       passes : heard .sw ≡ 0x9000 → first (rest i c (recordFound c area (codedOf h g x v)) (codedOf h g x v)) ≡ first (checks i c (recordFound c area (codedOf h g x v)) (codedOf h g x v))
       passes e = opened-by c (codedOf h g x v) (rule i) (recordFound c area (codedOf h g x v)) (sym (w .sw-is) ∙ e)
 
+      does-all : keyed (heard .left) (done i c (recordFound c area (codedOf h g x v)) (codedOf h g x v) random) ≡ effectOf i c (recordFound c area (codedOf h g x v)) (codedOf h g x v) random
+      does-all = keyed-by c (codedOf h g x v) (rule i) (recordFound c area (codedOf h g x v)) random (heard .left) (w .left-is) (w .plain) (spares i (codedOf h g x v) c)
+
   -- refused: the card that the code leaves
   opened-off : (heard .sw ≡ 0x9000 → ⊥)
-      → answers (heard .sw) (heard .card)
+      → answers (heard .sw) (withKeyLeft c (heard .left))
       ≡ ruled (first (checks i c (recordFound c area (codedOf h g x v)) (codedOf h g x v))) (kept i c (codedOf h g x v)) (effectOf i c (recordFound c area (codedOf h g x v)) (codedOf h g x v) random)
   unfolding opened checks
   opened-off n =
       let e : heard .sw ≡ first (checks i c (recordFound c area (codedOf h g x v)) (codedOf h g x v)) =
       w .sw-is ∙ closed-by c (codedOf h g x v) (rule i) (recordFound c area (codedOf h g x v)) (λ z. n (w .sw-is ∙ z)) in
-      ap₂ answers e (w .card-is) ∙ sym (stops _ (kept i c (codedOf h g x v)) (effectOf i c (recordFound c area (codedOf h g x v)) (codedOf h g x v) random) (λ z. n (e ∙ z)))
+      ap₂ answers e (w .left-is) ∙ sym (stops _ (kept i c (codedOf h g x v)) (effectOf i c (recordFound c area (codedOf h g x v)) (codedOf h g x v) random) (λ z. n (e ∙ z)))
 
   -- the same of a command's bytes
   module _ (cmd : List ℕ) (p : codedOf h g x v ≡ framed cmd) where
     abbrev byRule : Command → Effect
     byRule k = ruled (first (checks i c (recordFound c area k) k)) (kept i c k) (effectOf i c (recordFound c area k) k random)
 
-    pub coded-on : heard .sw ≡ 0x9000
-        → ruled (first (rest i (heard .card) (recordFound (heard .card) area (commandOf h [])) (commandOf h g))) (heard .card) (done i (heard .card) (recordFound (heard .card) area (commandOf h [])) (commandOf h g) random)
-        ≡ byRule (framed cmd)
+    pub coded-on : heard .sw ≡ 0x9000 → keyed (heard .left) byCode ≡ byRule (framed cmd)
     coded-on e = opened-on e ∙ ap byRule p
 
-    pub coded-off : (heard .sw ≡ 0x9000 → ⊥) → answers (heard .sw) (heard .card) ≡ byRule (framed cmd)
+    pub coded-off : (heard .sw ≡ 0x9000 → ⊥) → answers (heard .sw) (withKeyLeft c (heard .left)) ≡ byRule (framed cmd)
     coded-off n = opened-off n ∙ ap byRule p
 
 -- ---- the parts of a command are the command

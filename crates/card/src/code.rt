@@ -2,17 +2,15 @@
 ghost use mathlib.Core.Path.{_≡_};
 ghost use mathlib.Core.Bool.{_&&_};
 ghost use mathlib.Core.List.{[]};
-ghost use Rattle.rules.specs.Words.{unless, orElse, first};
-ghost use Rattle.rules.specs.State.{valueOf, credential, logins, challenge, withCredential};
+ghost use Rattle.rules.specs.Words.{orElse, first};
+ghost use Rattle.rules.specs.State.{valueOf, credential, logins, challenge};
 ghost use Rattle.rules.specs.Frame.{frameSw, classSw};
-ghost use Rattle.rules.specs.Effect.{answers};
 ghost use Rattle.rules.specs.List.{rule};
-ghost use Rattle.rules.specs.Code.{presentsCode, keyAfter};
+ghost use Rattle.rules.specs.Code.{presentsCode};
 ghost use Rattle.card.specs.Head.{codedOf, commandOf};
-ghost use Rattle.card.specs.Carried.{quietly};
-ghost use Rattle.card.specs.Coded.{takesCode, front, codeGiven, Hears, Opens};
-use crate::Carried;
+ghost use Rattle.card.specs.Coded.{takesCode, front, codeGiven, heardSo, Hears, Opens};
 use crate::Header;
+use crate::Heard;
 use crate::binary::binary_p_sw;
 use crate::device::challenge_block;
 use crate::device::challenge_sw;
@@ -26,9 +24,7 @@ use crate::pins::tried;
 use crate::pins::tries_sw;
 use crate::record::append_p_sw;
 use crate::record::record_p_sw;
-use crate::state::quietly;
 use crate::state::tries_at;
-use crate::state::with_tries;
 use crate::words::or_else;
 use crate::words::unless;
 use codes::mac;
@@ -63,18 +59,13 @@ pub fn takes_code(ins: Ins) -> bool
 pub fn front_sw(ins: Ins, h: Header, given: &[u8], code: &[u8]) -> u16
     ensures { λ r. ⌜ r ≡ first (front ins (codedOf h (now (given .entry)) (now (code .entry)) [])) ⌝ }
 {
-    let binary = binary_p_sw(h);
-    let record = record_p_sw(h);
-    let append = append_p_sw(h);
-    let read = read_case_sw(h, given, code);
-    let write = write_case_sw(h, given);
     match ins {
         Ins::Select => 0x9000,
-        Ins::ReadBinary => or_else(binary, read),
-        Ins::UpdateBinary => or_else(binary, write),
-        Ins::ReadRecord => or_else(record, read),
-        Ins::UpdateRecord => or_else(record, write),
-        Ins::AppendRecord => or_else(append, write),
+        Ins::ReadBinary => or_else(binary_p_sw(h), read_case_sw(h, given, code)),
+        Ins::UpdateBinary => or_else(binary_p_sw(h), write_case_sw(h, given)),
+        Ins::ReadRecord => or_else(record_p_sw(h), read_case_sw(h, given, code)),
+        Ins::UpdateRecord => or_else(record_p_sw(h), write_case_sw(h, given)),
+        Ins::AppendRecord => or_else(append_p_sw(h), write_case_sw(h, given)),
         Ins::Verify => 0x9000,
         Ins::Authenticate => 0x9000,
         Ins::ChangePin => 0x9000,
@@ -109,33 +100,34 @@ pub fn is_code(card: Card, covered: &[u8], code: &[u8]) -> bool
     same(mac(value, start, covered), 4, code)
 }
 
-// The code presented: the tries of the transport key, and no right.
-fn presented(card: Card, right: bool) -> Carried
-    ensures { λ r. ⌜ r ≡ quietly (answers (unless right 0x6988) (withCredential card 3 (keyAfter (credential card 3) right))) ⌝ }
+// The status word so far, and the tries left of the transport key.
+fn heard_so(sw: u16, left: u8) -> Heard
+    ensures { λ r. ⌜ r ≡ heardSo sw left ⌝ }
 {
-    let next = with_tries(card, TRANSPORT, tried(tries_at(card, TRANSPORT), right));
-    quietly(next, unless(right, 0x6988))
+    Heard { sw, left }
 }
 
-// Where there is no code all is as P and case have left it.
-fn hear(card: Card, h: Header, front: u16, covered: &[u8], code: &[u8]) -> Carried
+// Where there is no code all is as P and case have left it. A code presented changes the tries, and no right.
+fn hear(card: Card, h: Header, front: u16, covered: &[u8], code: &[u8]) -> Heard
     requires { ⌜ valueOf (credential card 3) ≡ credential card 3 .value ⌝ }
     requires { ⌜ orElse (frameSw (commandOf h [])) (classSw (commandOf h [])) ≡ 0x9000 ⌝ }
     ensures { λ r. ⌜ Hears front card (codedOf h [] (now (code .entry)) (now (covered .entry))) r ⌝ }
 {
+    let tries = tries_at(card, TRANSPORT);
     if h.cla != WITH_CODE {
-        return quietly(card, front);
+        return heard_so(front, tries.left);
     }
-    let tries = tries_sw(tries_at(card, TRANSPORT));
     let challenge = challenge_sw(card.session);
-    let sw = or_else(front, or_else(tries, challenge));
+    let sw = or_else(front, or_else(tries_sw(tries), challenge));
     if sw != 0x9000 {
-        return quietly(card, sw);
+        return heard_so(sw, tries.left);
     }
-    presented(card, is_code(card, covered, code))
+    let right = is_code(card, covered, code);
+    let after = tried(tries, right);
+    heard_so(unless(right, 0x6988), after.left)
 }
 
-// The card and the status word with which the file's checks begin.
+// The status word and the tries with which the file's checks begin.
 pub(crate) fn heard(
     ins: Ins,
     card: Card,
@@ -143,14 +135,14 @@ pub(crate) fn heard(
     given: &[u8],
     covered: &[u8],
     code: &[u8],
-) -> Carried
+) -> Heard
     requires { ⌜ valueOf (credential card 3) ≡ credential card 3 .value ⌝ }
     requires { ⌜ orElse (frameSw (commandOf h [])) (classSw (commandOf h [])) ≡ 0x9000 ⌝ }
     ensures { λ r. ⌜ Opens ins card (codedOf h (now (given .entry)) (now (code .entry)) (now (covered .entry))) r ⌝ }
 {
-    let front = front_sw(ins, h, given, code);
     if takes_code(ins) {
-        return hear(card, h, front, covered, code);
+        return hear(card, h, front_sw(ins, h, given, code), covered, code);
     }
-    quietly(card, front)
+    let tries = tries_at(card, TRANSPORT);
+    heard_so(0x9000, tries.left)
 }

@@ -259,9 +259,9 @@ module _ (p : Bool) (c : Card) (right : Bool) (xs : List Store) (k : ℕ) where
         code-next z = let m = not-one k o z in ap (storeAt xs) (m .1) ∙ store-tail (restores transport c) xs (k - 1) (m .0) ∙ behind
 
 -- ---- a served command
-module _ (c : Card) (area cmd : List ℕ) {h : Header} (is : h ≡ headOf cmd) {b t : Bool} (test : b ≡ isFetch (commandOf h [])) (both-is : t ≡ (eqb (mode c) 1 && b)) (k : ℕ) where
+module _ (c : Card) (area cmd : List ℕ) {h : Header} (is : h ≡ headOf cmd) {t : Bool} (test : t ≡ (eqb (mode c) 1 && isFetch (commandOf h []))) (k : ℕ) where
   fetching : t ≡ fetches c (framed cmd)
-  fetching = told-fetch c area cmd [] h is b t test both-is
+  fetching = told-fetch c area cmd [] h is t test
 
   pub fetch-none : t ≡ true → noStore ≡ storeAt (storesOf c area cmd) k
   unfolding actOf

@@ -268,7 +268,7 @@ pub(crate) fn served(card: Card, area: &[u8], cmd: &[u8], k: usize) -> Numbered
     ensures { λ r. ⌜ r ≡ storeAt (storesOf card (now (area .entry)) (now (cmd .entry))) k ⌝ }
 {
     let h = frame::head_of(cmd);
-    if both(card.response.mode == 1, response::is_fetch(h)) {
+    if response::fetches(card.response.mode == 1, h) {
         return no_store();
     }
     let ins = list::listed(h.cla, h.ins);
