@@ -8,6 +8,7 @@
 #include <string.h>
 
 #include "coded.h"
+#include "fault.h"
 #include "layout.h"
 #include "limpetnook.h"
 
@@ -47,15 +48,6 @@ uint8_t __real_limpet_text_to_new(const uint8_t *old, size_t old_len, uint8_t *t
 uint8_t __wrap_limpet_text_to_new(const uint8_t *old, size_t old_len, uint8_t *text, size_t text_len, size_t *text_count);
 uint8_t __real_limpet_text_to_old(const uint8_t *given, size_t given_len, uint8_t *text, size_t text_len, size_t *text_count);
 uint8_t __wrap_limpet_text_to_old(const uint8_t *given, size_t given_len, uint8_t *text, size_t text_len, size_t *text_count);
-
-static bool has_fault(const char *name)
-{
-    static const char *fault; /* asked for once, since every call asks for many */
-
-    if (fault == NULL)
-        fault = getenv("FAULT") != NULL ? getenv("FAULT") : "";
-    return strcmp(fault, name) == 0;
-}
 
 /* A fault of the calls that write, read and convert a card as lines: only the program texts makes them. */
 static bool has_text_fault(const char *name)

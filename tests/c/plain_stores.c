@@ -5,10 +5,10 @@
  * made, which tests/cuts has to notice; with none there is none.
  */
 #include <stdbool.h>
-#include <stdlib.h>
 #include <string.h>
 
 #include "coded.h"
+#include "fault.h"
 #include "layout.h"
 #include "limpetnook.h"
 #include "stores.h"
@@ -20,15 +20,6 @@ uint8_t __wrap_limpet_stores(const struct limpet_card *card, const uint8_t *area
                              const uint8_t *command, size_t command_len, const uint8_t *random, size_t random_len,
                              uint16_t first, uint8_t *stores, size_t stores_len, size_t *count);
 uint8_t __wrap_limpet_recover(struct limpet_card *card, const uint8_t *area, size_t area_len);
-
-static bool has_fault(const char *name)
-{
-    static const char *fault;
-
-    if (fault == NULL)
-        fault = getenv("FAULT") != NULL ? getenv("FAULT") : "";
-    return strcmp(fault, name) == 0;
-}
 
 /* ---- the stores of a command ---- */
 

@@ -270,8 +270,8 @@ build_card() {
 }
 
 # build_program NAME FLAG...: builds $built/NAME, one of the programs in C of tests/c and bench, over $library. What follows a hyphen in
-# the name tells builds of one program apart; NAME-faulty has tests/c/faults.c in between, and NAME-plain has tests/c/plain_stores.c in the
-# place of the two calls of R-10.
+# the name tells builds of one program apart; NAME-faulty has tests/c/faults.c in between, NAME-leaky has tests/c/leaks.c, and NAME-plain
+# has tests/c/plain_stores.c in the place of the two calls of R-10.
 build_program() {
     local name=$1 sources watched=(tests/c/{watched,coded,aes_bytes,layout,lent}.c)
     shift
@@ -283,6 +283,7 @@ build_program() {
     middle) sources=(tests/c/{middle,by_openssl,groups,cards}.c "${watched[@]}") ;;
     cuts) sources=(tests/c/{cuts,stores,play,groups,cards}.c "${watched[@]}" reader/lines.c) ;;
     recovers) sources=(tests/c/{recovers,stores,groups,cards}.c "${watched[@]}") ;;
+    outsider) sources=(tests/c/{outsider,asked,play,groups,cards}.c "${watched[@]}" reader/lines.c) ;;
     stack) sources=(tests/c/{stack,play}.c reader/lines.c) ;;
     verifies) sources=(tests/c/{verifies,coded,aes_bytes}.c) ;;
     blocks | compare) sources=("tests/c/${name%%-*}.c") ;;
@@ -297,6 +298,9 @@ build_program() {
         [[ " ${sources[*]} " == *" tests/c/coded.c "* ]] || sources+=(tests/c/{coded,aes_bytes,layout}.c)
         set -- "$@" -Wl,--wrap=limpet_issue,--wrap=limpet_command,--wrap=limpet_reset,--wrap=limpet_to_text,--wrap=limpet_from_text \
             -Wl,--wrap=limpet_text_to_new,--wrap=limpet_text_to_old,--wrap=limpet_code
+    elif [[ $name == *-leaky ]]; then
+        sources+=(tests/c/leaks.c)
+        set -- "$@" -Wl,--wrap=limpet_command,--wrap=limpet_reset
     elif [[ $name == *-plain ]]; then
         sources+=(tests/c/plain_stores.c)
         set -- "$@" -Wl,--wrap=limpet_store,--wrap=limpet_stores,--wrap=limpet_recover

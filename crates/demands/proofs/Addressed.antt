@@ -50,7 +50,7 @@ readsFrom reloadsPin c k = 0
 readsFrom asksChallenge c k = 0
 
 module _ (c : Card) (g : Good c) (k : Command) (n : ℕ) (some : 1 ≤ n) where
-  by-target : (ins sfi : ℕ) → EitherClass (k .cla) × (k .ins ≡ ins) → target c sfi ≡ n → Addresses c k ins sfi n
+  pub by-target : (ins sfi : ℕ) → EitherClass (k .cla) × (k .ins ≡ ins) → target c sfi ≡ n → Addresses c k ins sfi n
   by-target ins sfi b e =
       let there : 1 ≤ target c sfi = omega (arith, e, some) in
       record { class-is = b .0; instruction-is = b .1; named = subst (Named c sfi) e (target-named c g sfi there) }

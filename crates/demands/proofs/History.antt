@@ -1,13 +1,13 @@
 -- Files over any list of calls after a served issue, with the rights of the ledger.
 use Prim.Native.Nat.{ℕ, _+_, _-_, _≤_}
-use mathlib.Core.Bool.{Bool, true, false, cond}
+use mathlib.Core.Bool.{true}
 use mathlib.Core.List.{List, [], _∷_, _++_}
 use mathlib.Core.Logic.{_⊎_, inl, inr, ⊎-elim}
 use mathlib.Core.Path.{_≡_, refl, sym, ap, ap₂, _∙_, subst, fun-ext}
 use native.Mathlib.Omega.{arith}
 use lib.ListN.{length}
 use lib.Seq.{getD-set-same}
-use lib.Dec.{eqb, leb}
+use lib.Dec.{eqb}
 use borrow.Author.Tests.{eqb-true, eq-eqb, ne-eqb}
 use Rattle.files.specs.declared.File.{File}
 use Rattle.files.specs.declared.Directory.{Directory}
@@ -20,7 +20,7 @@ use Rattle.files.specs.Directory.{fileAt, start, extent, isPlace, inArea}
 use Rattle.files.specs.Words.{isZero, two}
 use Rattle.files.specs.Create.{areaSize, created, creates, founded}
 use Rattle.files.proofs.Checks.{clash, both, split}
-use Rattle.files.proofs.Parts.{part-apart}
+use Rattle.files.proofs.Parts.{Apart, part-apart}
 use Rattle.files.proofs.Extents.{lies}
 use Rattle.files.proofs.Kept.{filed, lies-in-area}
 use Rattle.files.proofs.Making.{founding}
@@ -29,8 +29,8 @@ use Rattle.rules.specs.declared.Credential.{Credential}
 use Rattle.rules.specs.declared.Card.{Card}
 use Rattle.rules.specs.declared.Ins.{Ins}
 use Rattle.rules.specs.declared.Ins.the-variants.{Select, CreateFile}
-use Rattle.rules.specs.Words.{first, same, swBytes}
-use Rattle.rules.specs.State.{Which, device, admin, user, transport, marked, Login, Logins, login, logins, challenge, mode, waiting, withCredentials, withDirectory, withWaiting}
+use Rattle.rules.specs.Words.{first, same}
+use Rattle.rules.specs.State.{Which, device, admin, user, transport, Login, Logins, login, logins, challenge, withCredentials, withDirectory, withChallenge, withWaiting}
 use Rattle.rules.specs.Frame.{Command, framed, frameSw, classSw}
 use Rattle.rules.specs.Effect.{Deed, turns, enters, shows, stores, appends, makes, founds, Touch, nothing, presents, changes, reloads, challenges, Effect}
 use Rattle.rules.specs.Binary.{fileOf, opens}
@@ -38,28 +38,30 @@ use Rattle.rules.specs.Record.{recordFound}
 use Rattle.rules.specs.Select.{selected}
 use Rattle.rules.specs.Create.{creationRight}
 use Rattle.rules.specs.List.{listed, isGetResponse, Role, role, rule}
-use Rattle.rules.specs.Response.{waitSw, fetchCount, fetches}
-use Rattle.rules.specs.Step.{did, touched, checks, effectOf, kept, swOf, ruled, outcome, Stepped, settled, atOnce, waits, delivered, gives, unchanged, fetchSw, fetched, step}
-use Rattle.rules.specs.Calls.{replySize, randomSize, answer, refused, served, command}
+use Rattle.rules.specs.Response.{waitSw}
+use Rattle.rules.specs.Step.{did, touched, checks, effectOf, kept, swOf, ruled, outcome, Stepped, settled, atOnce, waits, step}
+use Rattle.rules.specs.Calls.{answer, served, command}
 use Rattle.rules.proofs.Good.{sound-good, sound-parted}
 use Rattle.rules.proofs.Targets.{place-named}
 use Rattle.demands.specs.Ledger.{Event, sent, resets, Kind, right as rightly, kind, kindIn, isHeld, opensRight, Label, Tag, noLabel, labelGiven, tagGiven, sizeOf, labelIn, tagIn, Ledger, page, selectSw, servable, ledger, heldIn}
-use Rattle.demands.specs.Run.{World, world, called, after}
+use Rattle.demands.specs.Run.{World, world, Sound, called, after}
 use Rattle.demands.specs.Files.{Labelled, FilesFollow, RightCode, Written, Read, Writes, Stays, Altered, AlikeBut, SameBut, Shown, Made, MadeDirectory, NoneMade, Makes, Created}
 use Rattle.demands.specs.Held.{labelOf, Opens, AsksCode, MayCreate, IsFile, labelNo, tagNo}
 use Rattle.demands.specs.Framing.{NamedBy}
+use Rattle.demands.specs.Outsider.{Heard, AllButBytes}
 use Rattle.demands.proofs.Trees.{each-at}
 use Rattle.demands.proofs.Labels.{label-size, right-is, device-asked, select-same}
 use Rattle.demands.proofs.Rows.{codeIn, Fair, by-rule, kind-same}
 use Rattle.demands.proofs.Asked.{right-code}
 use Rattle.demands.proofs.Delivered.{fetched-by, step-by}
 use Rattle.demands.proofs.Soundness.{leaves}
-use Rattle.demands.proofs.Live.{Live, after-live, command-served, command-is, reset-is}
+use Rattle.demands.proofs.Live.{after-live, command-is, reset-is}
+use Rattle.demands.proofs.Pairs.{StepAlike, Waited, step-both, command-alike}
 use Rattle.demands.proofs.Follows.{Agree, follows}
 use Rattle.demands.proofs.Files.{By, Kept, Treats, compare-by, treats, treated-lengths}
 use Rattle.demands.proofs.Alike.{alike-splice, alike-part, AlikeIn, alike-in, alike-but}
 use Rattle.demands.proofs.Others.{found-same, sound-same}
-use Rattle.demands.proofs.Addressed.{writesTo, readsFrom, writes-to, reads-from}
+use Rattle.demands.proofs.Addressed.{writesTo, writes-to, reads-from}
 use Rattle.demands.proofs.Named.{opens-by, opens-asked}
 use Rattle.demands.proofs.View.{bytes-are}
 use Rattle.demands.proofs.Framing.{listed-by-bytes}
@@ -73,7 +75,7 @@ module _ (c : Card) (l : Ledger) (agree : Agree c l) where
   opens-told right h = opens-by right (λ w e. held-told w (eq-eqb _ _ e)) (opens-asked c right h)
 
 -- the files of the card are those of the ledger
-module _ (c : Card) (area : List ℕ) (live : Live (world c area)) (l : Ledger) (agree : Agree c l) where
+module _ (c : Card) (area : List ℕ) (live : Sound (world c area)) (l : Ledger) (agree : Agree c l) where
   pub labels-told : Labelled c l
   labels-told = record {
     count-is = agree .tree-is .count-is;
@@ -99,30 +101,16 @@ module _ (c : Card) (area : List ℕ) (live : Live (world c area)) (l : Ledger) 
   code-told cmd place here right h =
       rw (← labels-told .label-is place here) (λ a. let e = a .bit-set in right-code l cmd (sym (kind-told cmd) ∙ h (rw e)))
 
--- two steps that are the same but for a file's bytes
-pub record SameStep (place : ℕ) (a b : Stepped) : Type 0 where
-  pub card-is : a .card ≡ b .card
-  pub bytes-are : a .bytes ≡ b .bytes
-  pub sw-is : a .sw ≡ b .sw
-  pub areas : AlikeIn (a .card) place (a .area) (b .area)
-
-both-wait : (place : ℕ) (a b : Stepped) → SameStep place a b → SameStep place (waits a) (waits b)
-both-wait place a b k = record {
-  card-is = ap₂ withWaiting (k .card-is) (k .bytes-are);
-  bytes-are = refl;
-  sw-is = ap₂ (λ (d : List ℕ) (sw : ℕ). waitSw (length d) sw) (k .bytes-are) (k .sw-is);
-  areas = record { but-bytes = k .areas .but-bytes; lengths-are = k .areas .lengths-are };
-}
-
-both-served : (place : ℕ) (a b : Stepped) (reply : List ℕ) → SameStep place a b → SameBut place (served a reply) (served b reply)
-both-served place a b reply k = record {
-  answer-is = ap₂ (λ (x : Card) (d : List ℕ). answer 0 x (length d + 2)) (k .card-is) (k .bytes-are);
-  reply-is = ap₂ (λ (d : List ℕ) (sw : ℕ). over (d ++ swBytes sw) reply) (k .bytes-are) (k .sw-is);
-  areas = alike-but (a .card) place (a .area) (b .area) (k .areas);
+-- cards that are alike but for a file's bytes stay so with other bytes that wait
+bytes-waited : (n : ℕ) → Waited (AllButBytes n)
+bytes-waited n w v bytes r = record {
+  there = record { first = r .there .first; last = r .there .last };
+  card-is = ap (λ (c : Card). withWaiting c bytes) (r .card-is);
+  areas = record { but-bytes = r .areas .but-bytes; lengths-are = r .areas .lengths-are };
 }
 
 -- one served command
-module _ (c : Card) (area cmd random : List ℕ) (live : Live (world c area)) (place : ℕ) (file-here : IsFile c place) where
+module _ (c : Card) (area cmd random : List ℕ) (live : Sound (world c area)) (place : ℕ) (file-here : IsFile c place) where
   abbrev r : Role
   r = role (listed (framed cmd))
 
@@ -138,7 +126,7 @@ module _ (c : Card) (area cmd random : List ℕ) (live : Live (world c area)) (p
   here : isPlace (c .directory) place ≡ true
   here = place-named (c .directory) (sound-good c area (live .sound-card) .directory) place (file-here .first) (file-here .last)
 
-  treated : Treats y c area place r (framed cmd) (outcome (listed (framed cmd)) c (recordFound c area (framed cmd)) (framed cmd) random)
+  pub treated : Treats y c area place r (framed cmd) (outcome (listed (framed cmd)) c (recordFound c area (framed cmd)) (framed cmd) random)
   treated = treats (listed (framed cmd)) c area (live .sound-card) place some (file-here .last) (framed cmd) random
 
   fits : (bytes : List ℕ) → length bytes ≡ areaSize → e .into + length (e .stores) ≤ length bytes
@@ -176,43 +164,36 @@ module _ (c : Card) (area cmd random : List ℕ) (live : Live (world c area)) (p
     here-in : inArea (c .directory) place (length area) ≡ true
     here-in = lies-in-area (c .directory) area (sound-parted c area (live .sound-card)) place here
 
-    at-once-same : SameStep place (atOnce c area cmd random) (atOnce c other cmd random) ⊎ By y c place (readsFrom r c (framed cmd)) (λ f. f .read)
+    -- where none of the file's bytes are shown
+    at-once-unseen : Apart (start (c .directory) place) (size (fileOf c place)) (e .from) (e .shows)
+        → StepAlike (AllButBytes place) (atOnce c area cmd random) (atOnce c other cmd random)
     unfolding atOnce settled
-    at-once-same =
+    at-once-unseen a =
         rw (← found-same c area other place (live .sound-card) here alike (framed cmd))
-        (⊎-elim
-        (λ a. inl (record {
-          card-is = refl;
+        (record {
           bytes-are = ap (λ z. e .says ++ z) (alike-part (start (c .directory) place) (size (fileOf c place)) area other (alike .but-bytes) (e .from) (e .shows) a);
           sw-is = refl;
-          areas = record {
-            but-bytes =
-                rw (treated .start-is, treated .size-is)
-                (alike-splice (start (c .directory) place) (size (fileOf c place)) area other (alike .but-bytes) (e .into) (e .stores) (fits area (live .size-is)));
-            lengths-are =
-                treated-lengths y c area place r (framed cmd) e treated (lies (c .directory) place (length area) here-in .fits)
-                (fits area (live .size-is)) other (sym (alike .but-bytes .length-is)) (alike .lengths-are);
+          worlds = record {
+            there = record { first = some; last = treated .there };
+            card-is = refl;
+            areas = alike-but (withChallenge (e .card) (e .says)) place (splice area (e .into) (e .stores)) (splice other (e .into) (e .stores)) (record {
+              but-bytes =
+                  rw (treated .start-is, treated .size-is)
+                  (alike-splice (start (c .directory) place) (size (fileOf c place)) area other (alike .but-bytes) (e .into) (e .stores) (fits area (live .size-is)));
+              lengths-are =
+                  treated-lengths y c area place r (framed cmd) e treated (lies (c .directory) place (length area) here-in .fits)
+                  (fits area (live .size-is)) other (sym (alike .but-bytes .length-is)) (alike .lengths-are);
+            });
           };
-        }))
-        inr (treated .hidden))
+        })
 
-    pub step-same : SameStep place (step c area cmd random) (step c other cmd random) ⊎ By y c place (readsFrom r c (framed cmd)) (λ f. f .read)
-    unfolding step fetched
-    step-same = go (fetches c (framed cmd)) (marked (mode c))
-      where
-        both-fetched : (b : Bool) (n sw : ℕ) → SameStep place (cond b (gives c area n) (unchanged c area sw)) (cond b (gives c other n) (unchanged c other sw))
-        both-fetched true n sw = record { card-is = refl; bytes-are = refl; sw-is = refl; areas = record { but-bytes = alike .but-bytes; lengths-are = alike .lengths-are } }
-        both-fetched false n sw = record { card-is = refl; bytes-are = refl; sw-is = refl; areas = alike }
+    pub step-unseen : Apart (start (c .directory) place) (size (fileOf c place)) (e .from) (e .shows)
+        → StepAlike (AllButBytes place) (step c area cmd random) (step c other cmd random)
+    step-unseen a =
+        step-both (AllButBytes place) (bytes-waited place) (world c area) (world c other)
+        (record { there = file-here; card-is = refl; areas = alike-but c place area other alike }) refl cmd random (at-once-unseen a)
 
-        go : (b m : Bool)
-            → SameStep place (cond b (fetched c area (framed cmd)) (delivered m (atOnce c area cmd random)))
-            (cond b (fetched c other (framed cmd)) (delivered m (atOnce c other cmd random)))
-            ⊎ By y c place (readsFrom r c (framed cmd)) (λ f. f .read)
-        go true m = inl (both-fetched (eqb (fetchSw c (framed cmd)) 0x9000) (fetchCount (length (waiting c)) (framed cmd)) (fetchSw c (framed cmd)))
-        go false true = ⊎-elim (λ k. inl (both-wait place (atOnce c area cmd random) (atOnce c other cmd random) k)) inr at-once-same
-        go false false = at-once-same
-
-module _ (c : Card) (area : List ℕ) (live : Live (world c area)) (l : Ledger) (agree : Agree c l) where
+module _ (c : Card) (area : List ℕ) (live : Sound (world c area)) (l : Ledger) (agree : Agree c l) where
   -- the next call, and a file
   pub call-alters : (e : Event) (n : ℕ) → IsFile c n → Stays (world c area) (called (world c area) e) n ⊎ Writes c l e n
   call-alters (sent cmd random reply) n file-here =
@@ -231,27 +212,25 @@ module _ (c : Card) (area : List ℕ) (live : Live (world c area)) (l : Ledger) 
   pub call-shows : (cmd random reply other : List ℕ) (n : ℕ) → IsFile c n → AlikeBut c n area other
       → SameBut n (command c area cmd random reply) (command c other cmd random reply) ⊎ Read c l cmd n
   call-shows cmd random reply other n file-here alike =
-      let there : Live (world c other) = record {
-        sound-card = sound-same c area other n (live .sound-card) (here c area cmd random live n file-here) (alike-in c n area other alike);
+      let near = alike-in c n area other alike in
+      let there : Sound (world c other) = record {
+        sound-card = sound-same c area other n (live .sound-card) (here c area cmd random live n file-here) near;
         size-is = sym (alike .but-bytes .length-is) ∙ live .size-is;
       } in
-      rw (command-served c area live cmd random reply, command-served c other there cmd random reply)
-      (go (leb replySize (length reply)) (eqb (length random) randomSize))
-    where
-      go : (a b : Bool)
-          → SameBut n (cond a (cond b (served (step c area cmd random) reply) (refused 3 c area reply)) (refused 1 c area reply))
-          (cond a (cond b (served (step c other cmd random) reply) (refused 3 c other reply)) (refused 1 c other reply))
-          ⊎ Read c l cmd n
-      go true true =
-          ⊎-elim (λ k. inl (both-served n (step c area cmd random) (step c other cmd random) reply k))
-          (λ b. inr (record {
-            addressed = reads-from c (sound-good c area (live .sound-card)) (framed cmd) n (file-here .first) (b .0);
-            by-right = right-told c area live l agree n file-here (λ x. x .read) (b .1);
-            by-code = code-told c area live l agree cmd n file-here (λ x. x .read) (b .2);
-          }))
-          (step-same c area cmd random live n file-here other (alike-in c n area other alike))
-      go true false = inl (record { answer-is = refl; reply-is = refl; areas = alike })
-      go false b = inl (record { answer-is = refl; reply-is = refl; areas = alike })
+      ⊎-elim
+      (λ a. let k = command-alike (AllButBytes n) (world c area) (world c other) live there cmd random reply
+      (record { there = file-here; card-is = refl; areas = alike }) (λ s. step-unseen c area cmd random live n file-here other near a) in
+      inl (record {
+        answer-is = ap₂ (λ (h : Heard) (x : Card). answer (h .outcome) x (h .count)) (k .0) (k .1 .card-is);
+        reply-is = ap (λ (h : Heard). h .reply) (k .0);
+        areas = k .1 .areas;
+      }))
+      (λ b. inr (record {
+        addressed = reads-from c (sound-good c area (live .sound-card)) (framed cmd) n (file-here .first) (b .0);
+        by-right = right-told c area live l agree n file-here (λ x. x .read) (b .1);
+        by-code = code-told c area live l agree cmd n file-here (λ x. x .read) (b .2);
+      }))
+      (treated c area cmd random live n file-here .hidden)
 
 pub files-follow : FilesFollow
 files-follow o area es h = labels-told _ _ (after-live o area es h) (ledger o es) (follows o area es h)
@@ -266,7 +245,7 @@ record Quiet (area : List ℕ) (e : Effect) : Type 0 where
   empty : e .says ++ part (e .from) (e .shows) area ≡ []
 
 -- a SELECT is quiet, so its status word is that of its checks; and these ask of the ledger what they ask of the card
-module _ (c : Card) (area : List ℕ) (live : Live (world c area)) (l : Ledger) (agree : Agree c l) (cmd random : List ℕ) (named : listed (framed cmd) ≡ Select) where
+module _ (c : Card) (area : List ℕ) (live : Sound (world c area)) (l : Ledger) (agree : Agree c l) (cmd random : List ℕ) (named : listed (framed cmd) ≡ Select) where
   abbrev k : Command
   k = framed cmd
 
@@ -336,7 +315,7 @@ pub record NewDirectory (i : Ins) (c : Card) (k : Command) (e : Effect) : Type 0
 abbrev pub Counts : Ins → Card → List ℕ → Command → Effect → Type 0
 Counts i c area k e = NoneMade (world c area) (world (e .card) area) ⊎ (New i c area k e ⊎ NewDirectory i c k e)
 
-module _ (i : Ins) (c : Card) (area : List ℕ) (live : Live (world c area)) (k : Command) where
+module _ (i : Ins) (c : Card) (area : List ℕ) (live : Sound (world c area)) (k : Command) where
   same-counts : (e : Effect) → e .card .directory .count ≡ c .directory .count → e .card .directory .number ≡ c .directory .number → Counts i c area k e
   same-counts e p q = inl (record { files-are = p; directories-are = q })
 
@@ -380,7 +359,7 @@ module _ (i : Ins) (c : Card) (area : List ℕ) (live : Live (world c area)) (k 
   touch-counts (reloads w d) random = same-counts _ refl refl
   touch-counts (challenges n) random = same-counts _ refl refl
 
-step-counts : (c : Card) (area cmd random : List ℕ) → Live (world c area)
+step-counts : (c : Card) (area cmd random : List ℕ) → Sound (world c area)
     → Counts (listed (framed cmd)) c area (framed cmd) (outcome (listed (framed cmd)) c (recordFound c area (framed cmd)) (framed cmd) random)
 step-counts c area cmd random live =
     let i = listed (framed cmd) in
@@ -388,7 +367,7 @@ step-counts c area cmd random live =
     (λ t q. touch-counts i c area live (framed cmd) t random) (λ xs v sw. inl (record { files-are = refl; directories-are = refl }))
 
 -- what CREATE FILE needs, in the ledger
-module _ (c : Card) (area : List ℕ) (live : Live (world c area)) (l : Ledger) (agree : Agree c l) (h : opens c (creationRight c) ≡ true) where
+module _ (c : Card) (area : List ℕ) (live : Sound (world c area)) (l : Ledger) (agree : Agree c l) (h : opens c (creationRight c) ≡ true) where
   abbrev now : ℕ
   now = c .session .folder
 
@@ -417,7 +396,7 @@ abbrev pub Grew : Ledger → World → World → List ℕ → Type 0
 Grew l w v cmd = NoneMade w v ⊎ (Made l w v cmd ⊎ MadeDirectory l w v cmd)
 
 -- what comes of a deed or a touch, told of any card and area that have its files
-module _ (l : Ledger) (c : Card) (area cmd : List ℕ) (live : Live (world c area)) (agree : Agree c l) (e : Effect) where
+module _ (l : Ledger) (c : Card) (area cmd : List ℕ) (live : Sound (world c area)) (agree : Agree c l) (e : Effect) where
   abbrev told-card : Card → Card
   told-card x = withDirectory x (e .card .directory)
 
@@ -456,14 +435,14 @@ module _ (l : Ledger) (c : Card) (area cmd : List ℕ) (live : Live (world c are
       subst (λ (d : Directory). Grew l (world c area) (world (withDirectory x d) y) cmd) (sym p)
       (subst (λ (z : List ℕ). Grew l (world c area) (world (told-card x) z) cmd) (sym q) (counted x k))
 
-at-once-makes : (l : Ledger) (c : Card) (area cmd random : List ℕ) → Live (world c area) → Agree c l
+at-once-makes : (l : Ledger) (c : Card) (area cmd random : List ℕ) → Sound (world c area) → Agree c l
     → Grew l (world c area) (world (atOnce c area cmd random .card) (atOnce c area cmd random .area)) cmd
 unfolding atOnce settled
 at-once-makes l c area cmd random live agree =
     grew l c area cmd live agree (outcome (listed (framed cmd)) c (recordFound c area (framed cmd)) (framed cmd) random) (atOnce c area cmd random .card)
     (atOnce c area cmd random .area) refl refl (step-counts c area cmd random live)
 
-pub step-makes : (l : Ledger) (c : Card) (area cmd random : List ℕ) → Live (world c area) → Agree c l
+pub step-makes : (l : Ledger) (c : Card) (area cmd random : List ℕ) → Sound (world c area) → Agree c l
     → Grew l (world c area) (world (step c area cmd random .card) (step c area cmd random .area)) cmd
 step-makes l c area cmd random live agree =
     let made = at-once-makes l c area cmd random live agree in
@@ -494,7 +473,7 @@ step-makes l c area cmd random live agree =
 pub files-created : Created
 files-created o area es h e = go e (after-live o area es h) (follows o area es h)
   where
-    go : (e : Event) → Live (after o area es) → Agree (after o area es .card) (ledger o es)
+    go : (e : Event) → Sound (after o area es) → Agree (after o area es .card) (ledger o es)
         → NoneMade (after o area es) (called (after o area es) e) ⊎ Makes (ledger o es) (after o area es) (called (after o area es) e) e
     go (sent cmd random reply) live agree =
         rw (command-is (after o area es .card) (after o area es .area) live cmd random reply)

@@ -62,6 +62,7 @@ use Rattle.edges.specs.FolderRanges.{types-created, fids-created, creati
 use Rattle.edges.specs.Codes.{codes, unpresented}
 use Rattle.edges.specs.BehindCode.{coded-tries, coded-rights, coded-counts, paddings}
 use Rattle.edges.specs.Coded.{code-late, code-wrong, code-served}
+use Rattle.edges.specs.Outsiders.{outsiders, guessers}
 use Rattle.edges.specs.Edges.{edges, EachHolds}
 
 -- whether rows hold, by computation: to unfold this is to unfold every rule that a row may need
@@ -277,6 +278,14 @@ pub code-served-hold : allHold code-served ≡ true
 unfolding computed
 code-served-hold = refl
 
+pub outsiders-hold : allHold outsiders ≡ true
+unfolding computed
+outsiders-hold = refl
+
+pub guessers-hold : allHold guessers ≡ true
+unfolding computed
+guessers-hold = refl
+
 pub edges-hold : EachHolds edges
 edges-hold =
-    (starred-hold, (framing-hold, (selecting-hold, (binaries-hold, (recording-hold, (variables-hold, (holding-rights-hold, (pins-hold, (devices-hold, (creating-hold, (calls-hold, (credentials-hold, (directories-hold, (sessions-hold, (folders-hold, (folder-states-hold, (fetching-hold, (discarding-hold, (modes-hold, (responses-hold, (login-hold, (login-fetched-hold, (class-bytes-hold, (ins-bytes-hold, (frame-lengths-hold, (sfis-hold, (offsets-hold, (rights-created-hold, (rights-asked-hold, (pin-digits-hold, (pin-tries-hold, (orders-hold, (staying-hold, (cryptograms-hold, (login-of-4-hold, (login-of-8-hold, (response-bytes-hold, (issue-modes-hold, (types-created-hold, (fids-created-hold, (creation-rights-hold, (creation-asked-hold, (folder-bytes-hold, (codes-hold, (unpresented-hold, (coded-tries-hold, (coded-rights-hold, (coded-counts-hold, (paddings-hold, (code-late-hold, (code-wrong-hold, (code-served-hold, tt))))))))))))))))))))))))))))))))))))))))))))))))))))
+    (starred-hold, (framing-hold, (selecting-hold, (binaries-hold, (recording-hold, (variables-hold, (holding-rights-hold, (pins-hold, (devices-hold, (creating-hold, (calls-hold, (credentials-hold, (directories-hold, (sessions-hold, (folders-hold, (folder-states-hold, (fetching-hold, (discarding-hold, (modes-hold, (responses-hold, (login-hold, (login-fetched-hold, (class-bytes-hold, (ins-bytes-hold, (frame-lengths-hold, (sfis-hold, (offsets-hold, (rights-created-hold, (rights-asked-hold, (pin-digits-hold, (pin-tries-hold, (orders-hold, (staying-hold, (cryptograms-hold, (login-of-4-hold, (login-of-8-hold, (response-bytes-hold, (issue-modes-hold, (types-created-hold, (fids-created-hold, (creation-rights-hold, (creation-asked-hold, (folder-bytes-hold, (codes-hold, (unpresented-hold, (coded-tries-hold, (coded-rights-hold, (coded-counts-hold, (paddings-hold, (code-late-hold, (code-wrong-hold, (code-served-hold, (outsiders-hold, (guessers-hold, tt))))))))))))))))))))))))))))))))))))))))))))))))))))))

@@ -1,0 +1,3 @@
+-- The theorems apply, by computation.
+pub mod Apply
+pub mod Hold
