@@ -8,6 +8,7 @@ challenges: such a card has files, and gives challenges; all else it answers at 
 seeds: first and last. It is run once for each, on a card that answers at random; a line of output tells each status, and one more where
 anything was sent behind a wrong code (6988).
 slow: seconds that such a card takes for each answer; it has alarms without end then.
+alarms: how many such a card has, in the place of alarms without end.
 """
 import importlib.machinery
 import importlib.util
@@ -106,11 +107,13 @@ def at_random(seed, challenges):
     return answer
 
 
-def slowly(seconds):
+def slowly(seconds, count):
     def answer(command):
         time.sleep(seconds)
         if command[1] in (SELECT, GET_CHALLENGE):
             return bytes(16 if command[1] == GET_CHALLENGE else 0) + b"\x90\x00"
+        if command[2] > count:
+            return b"\x6a\x83"
         return bytes.fromhex(f"{1000 - command[2]:08X}010200039000")
 
     return answer
@@ -129,5 +132,5 @@ if "seeds" in alterations:
         print(f"seed {seed}: status {alarms.main()}", flush=True)
     sys.exit()
 if "readers" in alterations:
-    alarms.ctypes.CDLL = lambda _: Library(alterations["readers"], slowly(alterations.get("slow", 0)))
+    alarms.ctypes.CDLL = lambda _: Library(alterations["readers"], slowly(alterations.get("slow", 0), alterations.get("alarms", 255)))
 sys.exit(alarms.main())

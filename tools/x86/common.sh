@@ -26,7 +26,7 @@ fi
 # has PACKAGE: whether what is used here of that Debian package is there.
 has() {
     case $1 in
-    clang | debootstrap | gcc | g++ | openssl | pcscd | python3 | valgrind) command -v "$1" ;;
+    chromium | clang | debootstrap | gcc | g++ | openssl | pcscd | python3 | valgrind) command -v "$1" ;;
     gcc-x86-64-linux-gnu | g++-x86-64-linux-gnu) command -v "x86_64-linux-gnu-${1%%-*}" ;;
     libc6-dev) gcc -E -include stdio.h -x c /dev/null ;;
     libclang-rt-dev) test -e "$(clang -print-runtime-dir)/libclang_rt.fuzzer-x86_64.a" ;;

@@ -57,6 +57,18 @@ pub decimal-length : (k n : ℕ) → n < 10 ^ suc k → length (decimal n) ≤ s
 unfolding decimal
 decimal-length k n h = tens-length 19 k n h
 
+digits-most : (k n : ℕ) → length (digitsIn k n) ≤ suc k
+digits-most zero n = omega (arith, ap length (tens-none n))
+digits-most (suc k) n =
+    by-cases (decLe 10 n)
+    (λ l. rw (tens-more k n l) (omega (arith, length-append (digitsIn k (n / 10)) (lastDigit n ∷ []), digits-most k (n / 10))))
+    (λ l. let m : n < 10 = omega arith in rw (tens-one (suc k) n m) (omega arith))
+
+-- twenty digits at most
+pub decimal-most : (n : ℕ) → length (decimal n) ≤ 20
+unfolding decimal
+decimal-most n = digits-most 19 n
+
 -- what holds of one digit, and of a number with its last digit where it holds of the tens with the others, holds of every number and its digits
 by-tens : (P : ℕ → List ℕ → Type 0) → ((n : ℕ) → n < 10 → P n (lastDigit n ∷ [])) → ((n : ℕ) (w : List ℕ) → 10 ≤ n → P (n / 10) w → P n (ended (lastDigit n) w))
     → (k n : ℕ) → n < 10 ^ suc k → P n (digitsIn k n)

@@ -1,5 +1,7 @@
 -- Numbers in decimal without leading zeros, bytes in upper-case hex or -, and what a digit stands for.
 use Prim.Native.Nat.{ℕ, zero, suc, _+_, _-_, _*_, _/_, _%_}
+use Prim.Native.Char.{code}
+use Prim.Native.String.{String, [] as []ᶜ, _∷_ as _∷ᶜ_}
 use mathlib.Core.Bool.{cond, _&&_}
 use mathlib.Core.List.{List, [], _∷_, _++_}
 use lib.Dec.{leb, ltb}
@@ -10,6 +12,11 @@ tab = 9
 
 abbrev pub newline : ℕ
 newline = 10
+
+-- characters by their numbers in ASCII
+abbrev pub chars : String → List ℕ
+chars []ᶜ = []
+chars (c ∷ᶜ s) = code c ∷ chars s
 
 -- a text and a byte behind it
 abbrev pub ended : ℕ → List ℕ → List ℕ

@@ -16,7 +16,7 @@ pub fn put(out: &mut [u8], at: usize, b: u8) -> usize
     at
 }
 
-fn put_all(out: &mut [u8], at: usize, text: &[u8]) -> usize
+pub fn put_all(out: &mut [u8], at: usize, text: &[u8]) -> usize
     ensures { λ r. ⌜ Draws (now (text .entry)) (now (out .entry)) at r (now (out .exit)) ⌝ }
 {
     let mut q = at;

@@ -5,7 +5,7 @@ use mathlib.Core.List.{List, [], _∷_, _++_}
 use lib.Dec.{eqb}
 use lib.ListN.{replicate}
 use Rattle.lines.specs.Grammar.{isHex, isLimit, isIssue}
-use Rattle.lines.specs.Says.{chars}
+use Rattle.digits.specs.Digits.{chars}
 use Rattle.line_examples.specs.Table.{Row, sent, other, swept, agree, among, parted, text, kind}
 use Rattle.line_examples.specs.Fields.{but, butChars}
 

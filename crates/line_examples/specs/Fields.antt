@@ -3,7 +3,7 @@ use Prim.Native.Nat.{ℕ}
 use Prim.Native.String.{String}
 use mathlib.Core.List.{List, [], _∷_, _++_}
 use lib.ListN.{take, drop, set}
-use Rattle.lines.specs.Says.{chars}
+use Rattle.digits.specs.Digits.{chars}
 use Rattle.line_examples.specs.Table.{Row, issued, sent, reset, other, parted, eachChars, text}
 
 -- the fields of a good ISSUE, one of them another

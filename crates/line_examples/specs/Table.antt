@@ -11,7 +11,7 @@ use Rattle.rules.specs.Calls.{Given, Order}
 use Rattle.lines.specs.declared.Bench.{Bench}
 use Rattle.lines.specs.Grammar.{isIssue, orderIn, isCommand, commandIn, randomIn, isReset}
 use Rattle.lines.specs.Script.{noCard, Written, answer}
-use Rattle.lines.specs.Says.{chars}
+use Rattle.digits.specs.Digits.{chars}
 
 -- fields parted by tabs
 abbrev pub parted : List (List ℕ) → List ℕ

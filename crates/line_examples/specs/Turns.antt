@@ -3,7 +3,7 @@ use Prim.Native.Nat.{ℕ}
 use Prim.Native.String.{String}
 use mathlib.Core.List.{List, [], _∷_, _++_}
 use lib.ListN.{replicate}
-use Rattle.lines.specs.Says.{chars}
+use Rattle.digits.specs.Digits.{chars}
 use Rattle.line_examples.specs.Table.{Row, turns, unanswered, Turn, parted, text}
 
 -- no card; document 01's card with so many tries left of its user PIN, and a challenge of so many bytes

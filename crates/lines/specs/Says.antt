@@ -1,8 +1,6 @@
 -- What a line is, said by writing it, and what the program does with it: document 01's section "The script program", with R-6 and R-9. The words are the
 -- statements' own: SpelledRead and ReadSpelled alone name definitions of Grammar.
 use Prim.Native.Nat.{ℕ, _≤_, _<_}
-use Prim.Native.Char.{code}
-use Prim.Native.String.{String, [] as []ᶜ, _∷_ as _∷ᶜ_}
 use mathlib.Core.Bool.{true, false, _||_}
 use mathlib.Core.List.{List, [], _∷_, _++_}
 use mathlib.Core.Path.{_≡_}
@@ -13,15 +11,10 @@ use Rattle.rules.specs.Words.{swBytes}
 use Rattle.rules.specs.Step.{step}
 use Rattle.rules.specs.Calls.{Order, issue, command, reset}
 use Rattle.card.specs.Ordered.{orderOf}
-use Rattle.digits.specs.Digits.{tab, newline, decimal, hexOf, orDash}
+use Rattle.digits.specs.Digits.{tab, newline, chars, decimal, hexOf, orDash}
 use Rattle.lines.specs.declared.Bench.{Bench}
 use Rattle.lines.specs.Grammar.{isIssue, orderIn, isCommand, commandIn, randomIn, isReset}
 use Rattle.lines.specs.Script.{bench, noCard, Written, written, answer}
-
--- characters by their numbers in ASCII
-abbrev pub chars : String → List ℕ
-chars []ᶜ = []
-chars (c ∷ᶜ s) = code c ∷ chars s
 
 -- fields parted by tabs
 unfoldable pub joined : List (List ℕ) → List ℕ
