@@ -1,4 +1,4 @@
-"""The code at the end of a coded command, as docs/COMMANDS.md has it, for tools/alarms. It has an AES-128 of its own, written from
+"""The code at the end of a coded command, as docs/COMMANDS.md has it, for tools/pcsc. It has an AES-128 of its own, written from
 FIPS 197: a key that is handed to openssl would stand in the list of processes."""
 
 BLOCK = 16

@@ -1,4 +1,4 @@
-"""What a line of a script is, as document 01 has it. tools/script-warnings and tools/alarms go by it."""
+"""What a line of a script is, as document 01 has it. tools/script-warnings and tools/pcsc go by it."""
 import re
 
 LAST_LINE = 65535  # the program reads no further

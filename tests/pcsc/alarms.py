@@ -6,16 +6,15 @@ import json
 import os
 import re
 import signal
-import socket
 import subprocess
-import sys
 import tempfile
 import termios
 import threading
 import time
 
-from stack import (ADMIN_PIN, PORT, READERS, ROOT, SECONDS, TRANSPORT_KEY, USER_PIN, Scriptor, Terminal, card, card_present, changes, check,
-                   code_of, end, is_stopped, issue_line, wait_for_removal, wait_until, with_mode)
+from cable import made_up
+from stack import (ADMIN_PIN, READERS, ROOT, SECONDS, TRANSPORT_KEY, USER_PIN, Scriptor, Terminal, card, check, code_of, end, held, is_stopped,
+                   issue_line, wait_until, with_mode)
 
 RANDOM = "00112233445566778899AABBCCDDEEFF"
 # The device login of FIPS 197's appendix C.1: its key is ISSUE_WORDS', its plaintext the random input.
@@ -475,27 +474,6 @@ def terminals():
 # ---- which card
 
 TWO_CARDS = "alarms: 2 readers have a card; say which:\n  --reader 'Virtual PCD 00 00'\n  --reader 'Virtual PCD 00 01'\n"
-HOLD = """
-import ctypes, sys
-library, context, card, protocol = ctypes.CDLL("libpcsclite.so.1"), ctypes.c_long(), ctypes.c_long(), ctypes.c_ulong()
-library.SCardEstablishContext(ctypes.c_ulong(2), None, None, ctypes.byref(context))
-print(library.SCardConnect(context, sys.argv[1].encode(), ctypes.c_ulong(int(sys.argv[2])), ctypes.c_ulong(3), ctypes.byref(card),
-                           ctypes.byref(protocol)), flush=True)
-sys.stdin.read()
-library.SCardDisconnect(card, ctypes.c_ulong(0))
-"""
-
-
-@contextlib.contextmanager
-def held(slot, share):
-    """The card there is in use by another program; share: 1 for it alone, 2 for others too."""
-    words = [sys.executable, "-c", HOLD, READERS[slot], str(share)]
-    with subprocess.Popen(words, stdin=subprocess.PIPE, stdout=subprocess.PIPE, text=True) as holder:
-        check("another program is connected", holder.stdout.readline() == "0\n")
-        yield
-        holder.stdin.close()
-
-
 def which_card():
     """The box's card in one slot, another one in the other; in use or not. None is taken for the other, and none is touched."""
     none = "alarms: no card in the readers 'Virtual PCD 00 00', 'Virtual PCD 00 01'; put it in, the right way round\n"
@@ -539,43 +517,6 @@ def mute():
 
 
 # ---- cards that fail while they are read
-
-
-@contextlib.contextmanager
-def made_up(answer, atr=bytes.fromhex("3B8A8131FE45807116564C494D50455439"), present=card_present, at_reset=lambda: None):
-    """A card of this test's own in the virtual reader. answer: gives its answer to a command; None where it is taken out. present:
-    tells whether pcscd has seen it. at_reset: what it does when it is reset or loses its power."""
-    power_off, power_on, reset, get_atr = (bytes([code]) for code in (0, 1, 2, 4))  # vpcd's messages; others are commands
-
-    def message():
-        vpcd.setsockopt(socket.IPPROTO_TCP, socket.TCP_QUICKACK, 1)  # only for speed, as in reader/vpcd.c
-        return stream.read(int.from_bytes(stream.read(2), "big"))
-
-    def serve():
-        with contextlib.suppress(OSError):  # where the connection was closed while vpcd asked
-            while body := message():
-                if body in (power_off, reset):
-                    at_reset()
-                if body in (power_off, power_on, reset):
-                    continue
-                reply = atr if body == get_atr else answer(body)
-                if reply is None:
-                    break
-                vpcd.sendall(len(reply).to_bytes(2, "big") + reply)
-            vpcd.shutdown(socket.SHUT_RDWR)
-
-    with socket.create_connection(("127.0.0.1", PORT)) as vpcd, vpcd.makefile("rb") as stream:
-        served = threading.Thread(target=serve)
-        served.start()
-        try:
-            wait_until(present, "a card in the reader")
-            before = changes()
-            yield
-        finally:
-            with contextlib.suppress(OSError):  # where it is taken out already
-                vpcd.shutdown(socket.SHUT_RDWR)
-            served.join(SECONDS)
-    wait_for_removal(before)
 
 
 def failing():
@@ -647,7 +588,7 @@ def stopped_while_reading():
             stopped.wait(longer)
             return reply
 
-        with made_up(card_answers, at_reset=forgot.set):
+        with made_up(card_answers, at_reset=lambda _: forgot.set()):
             tool = subprocess.Popen(patient, stdin=subprocess.DEVNULL, stderr=subprocess.PIPE, text=True)
             try:
                 asked.wait(SECONDS)

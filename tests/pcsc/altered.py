@@ -1,6 +1,7 @@
 #!/usr/bin/env python3
 """Runs tools/alarms with some of it altered: altered.py ALTERATIONS WORDS..., where ALTERATIONS is JSON.
 
+tool: box, to run tools/box in its place.
 ANSWER_SECONDS, CARD_SECONDS, CODED_SECONDS: in place of its own.
 typed_at: the number of a prompt; behind that one it goes on only once a line is typed.
 readers: with a library in place of libpcsclite that has these readers, a list of names in hex and states. No card is real then.
@@ -20,14 +21,14 @@ import select
 import sys
 import time
 
-TOOL = os.path.join(os.path.dirname(os.path.dirname(os.path.dirname(os.path.abspath(__file__)))), "tools", "alarms")
+TOOLS = os.path.join(os.path.dirname(os.path.dirname(os.path.dirname(os.path.abspath(__file__)))), "tools")
 WORDS = ["6108", "6100", "6982", "63C3", "6A83", "6A82", "6983", "6F00", "6C08", "1234", "6988", "6984"]
 
 
-def tool():
+def loaded(name):
     sys.dont_write_bytecode = True  # it would stand beside the tool
-    loader = importlib.machinery.SourceFileLoader("alarms", TOOL)
-    module = importlib.util.module_from_spec(importlib.util.spec_from_loader("alarms", loader))
+    loader = importlib.machinery.SourceFileLoader(f"tools_{name}", os.path.join(TOOLS, name))
+    module = importlib.util.module_from_spec(importlib.util.spec_from_loader(loader.name, loader))
     loader.exec_module(module)
     return module
 
@@ -46,7 +47,7 @@ def wait_at(prompt):
 
 
 class Library:
-    """The calls of libpcsclite that tools/alarms makes."""
+    """The calls of libpcsclite that the tools make."""
 
     def __init__(self, readers, answer):
         self.readers = [(bytes.fromhex(name), state) for name, state in readers]
@@ -71,6 +72,9 @@ class Library:
         return 0
 
     def SCardConnect(self, *_):
+        return 0
+
+    def SCardReconnect(self, *_):
         return 0
 
     def SCardDisconnect(self, *_):
@@ -120,17 +124,19 @@ def slowly(seconds, count):
 
 
 alterations = json.loads(sys.argv[1])
-alarms = tool()
-sys.argv = [TOOL, *sys.argv[2:]]
+tool = loaded(alterations.get("tool", "alarms"))
+from pcsc import connection  # noqa: E402: the tool has told where it is
+
+sys.argv = [tool.__file__, *sys.argv[2:]]
 for name in ("ANSWER_SECONDS", "CARD_SECONDS", "CODED_SECONDS"):
-    setattr(alarms, name, alterations.get(name, getattr(alarms, name)))
+    setattr(connection, name, alterations.get(name, getattr(connection, name)))
 if "typed_at" in alterations:
     wait_at(alterations["typed_at"])
 if "seeds" in alterations:
     for seed in range(*alterations["seeds"]):
-        alarms.ctypes.CDLL = lambda _: Library(alterations["readers"], at_random(seed, "challenges" in alterations))
-        print(f"seed {seed}: status {alarms.main()}", flush=True)
+        connection.ctypes.CDLL = lambda _: Library(alterations["readers"], at_random(seed, "challenges" in alterations))
+        print(f"seed {seed}: status {tool.main()}", flush=True)
     sys.exit()
 if "readers" in alterations:
-    alarms.ctypes.CDLL = lambda _: Library(alterations["readers"], slowly(alterations.get("slow", 0), alterations.get("alarms", 255)))
-sys.exit(alarms.main())
+    connection.ctypes.CDLL = lambda _: Library(alterations["readers"], slowly(alterations.get("slow", 0), alterations.get("alarms", 255)))
+sys.exit(tool.main())

@@ -1,16 +1,16 @@
 #!/usr/bin/env python3
-"""docs/STANDBY.md, ELECTRICIAN.md and OFFICE.md: each transcript is typed at a terminal, in order, and has to come out as the page
-has it. So has the session with codes of docs/COMMANDS.md, but for challenges and codes: they are others each time.
+"""docs/STANDBY.md, ELECTRICIAN.md, OFFICE.md and BY-HAND.md: each transcript is typed at a terminal, in order, and has to come out as
+the page has it. So has the session with codes of docs/COMMANDS.md, but for challenges and codes: they are others each time.
 
 A transcript is a block marked console. A line with $ is typed at the shell. Below it a command in hex, reset and exit are typed
-to scriptor, each when the one before is answered; the rest is what the terminal shows. What is typed without being shown stands
-in a remark before the block, and mode 1 where the card is one of mode 1, or bus where it is that of examples/bus.script. Blanks at the
-end of a line do not count.
+to scriptor, each when the one before is answered; the rest is what the terminal shows. What is typed at the prompts of tools/box, one
+after the other, stands in a remark before the block, and mode 1 where the card is one of mode 1, or bus where it is that of
+examples/bus.script. Blanks at the end of a line do not count.
 
 The card of mode 1 is made as the page says. So is one with C2 for its alarms, and each PIN opens it.
 
-The tables of status words have to be whole: each that a transcript shows is in that of its page or of STANDBY.md, and each that the
-rules name is on a page.
+The tables of status words have to be whole: each that a transcript shows is in that of BY-HAND.md, and each that the rules name is on a
+page.
 """
 import contextlib
 import glob
@@ -21,8 +21,9 @@ import tempfile
 
 from stack import ROOT, SECONDS, TRANSPORT_KEY, OpenscTool, Scriptor, Terminal, card, card_present, check, code_of, end, wait_until
 
-PAGES = ("STANDBY", "ELECTRICIAN", "OFFICE")
-BLOCK = re.compile(r"(?:<!-- (mode 1|bus)?(?:, )?(?:typed: (\S+))? -->\n)?```console\n(.*?)```\n", re.DOTALL)
+PAGES = ("STANDBY", "ELECTRICIAN", "OFFICE", "BY-HAND")
+BLOCK = re.compile(r"(?:<!-- (mode 1|bus)?(?:, )?(?:typed: ([^\n]+))? -->\n)?```console\n(.*?)```\n", re.DOTALL)
+PROMPT = r"\): $"
 TYPED = re.compile(r"[0-9A-F]{8,}|reset|exit")
 
 
@@ -33,7 +34,15 @@ def calls(block):
         yield command, [line.rstrip() for line in shown.splitlines()]
 
 
-def seen(command, lines, hidden):
+def answered(terminal, prompts):
+    """What stands first in prompts is typed at each prompt of a program, as long as there is anything and the program asks."""
+    with contextlib.suppress(RuntimeError):  # it has ended
+        while prompts:
+            terminal.wait_for(PROMPT)
+            terminal.type(prompts.pop(0))
+
+
+def seen(command, lines, prompts):
     """What the terminal shows when the command is run and the lines are typed that are to be typed."""
     terminal = Terminal("bash", "-c", command)
     if command == "scriptor":
@@ -42,9 +51,8 @@ def seen(command, lines, hidden):
             terminal.type(line)
             if line != "exit":
                 terminal.wait_for(r"^< [^:]*:.*\n")
-    elif hidden:
-        terminal.wait_for(r"\): $")
-        terminal.type(hidden)
+    else:
+        answered(terminal, prompts)
     terminal.end()
     return [line.rstrip() for line in terminal.text.splitlines()]
 
@@ -86,7 +94,7 @@ def status_words():
     rows = {name: re.findall(r"^\| ([0-9A-F]{4})(?: to ([0-9A-F]{4}))? \|", text, re.MULTILINE) for name, text in texts.items()}
     shown = {name: shown_in(name) for name in PAGES}
     for name in PAGES:
-        told = rows["STANDBY"] + rows[name]
+        told = rows["BY-HAND"]
         for word in sorted(shown[name]):
             check(f"{name}: a table has {word}", any(first <= word <= (last or first) for first, last in told), told)
         for first, last in rows[name]:
@@ -127,10 +135,14 @@ def transcripts(mode, box, *names):
         if mode != "bus":
             check(f"the script of the box is served throughout {mode}", answers == [first] + ["9000"] * 11, answers)
         for name in names:
-            for number, (of_mode, hidden, block) in enumerate(blocks[name], 1):
-                for command, lines in calls(block) if of_mode == mode else ():
-                    got = seen(command, lines, hidden)
+            for number, (of_mode, typed, block) in enumerate(blocks[name], 1):
+                if of_mode != mode:
+                    continue
+                prompts = typed.split()
+                for command, lines in calls(block):
+                    got = seen(command, lines, prompts)
                     check(f"{name}, transcript {number}, {command}", got == lines, first_difference(lines, got))
+                check(f"{name}, transcript {number}: all that is to be typed was asked for", not prompts, prompts)
 
 
 def coded_session():
@@ -174,27 +186,27 @@ def coded_session():
 
 
 def alarms_with(pin, *words):
-    """What tools/alarms says, on its output and of what is wrong."""
-    words = ["tools/alarms", *words, "--pin-from", "-"]
+    """What tools/box alarms says, on its output and of what is wrong."""
+    words = ["tools/box", "alarms", *words, "-"]
     ended = subprocess.run(words, input=pin, capture_output=True, text=True, timeout=SECONDS, cwd=ROOT)
     return ended.stdout + ended.stderr
 
 
 def either_pin():
     """The card that the page has the reader make for practising with C2: each PIN opens the alarms, and none does not."""
-    check("the page has the call for the office", "\n    tools/alarms --admin\n" in page)
+    check("the page has the call for the office", "\n    tools/box alarms --admin\n" in page)
     table = re.search(r"^card in .*\n    number .*\n(?: .*\n){4}oldest .*\n", page, re.MULTILINE)[0]
     with changed_box("office", "80E0A101052E0408C201"):
         client = OpenscTool()
         got = client.send("00B2010C00")
         check("either PIN: none is shown", got == ("", "6982"), got)
-        for who, pin, words in (("the electrician", "123456", ()), ("the office", "87654321", ("--admin",))):
+        for who, pin, words in (("the electrician", "123456", ("--pin-from",)), ("the office", "87654321", ("--admin", "--admin-pin-from"))):
             got = alarms_with(pin, *words)
             check(f"either PIN: {who} reads the alarms", got == table, got)
             client.reset()
-        got = alarms_with("111111")
+        got = alarms_with("111111", "--pin-from")
         check("either PIN: a wrong user PIN", "wrong user PIN (63C2)" in got, got)
-        got = alarms_with("87654321", "--admin")
+        got = alarms_with("87654321", "--admin", "--admin-pin-from")
         check("either PIN: and the office reads all the same", got == table, got)
 
 
@@ -225,18 +237,18 @@ def programs():
     opensc = ["opensc-tool", "-c", "default", "-s", "00200001"]
     says("No smartcard inserted.", "scriptor")
     says("Card not present", *opensc)
-    says("no card in the reader", "tools/alarms")
+    says("no card in the reader", "tools/box", "alarms")
     nowhere = {"PCSCLITE_CSOCK_NAME": "/nonexistent"}  # where the programs look for pcscd
     says("Service not available.", "scriptor", **nowhere)
     says("No smart card readers found.", *opensc, **nowhere)
-    says("pcscd is not running", "tools/alarms", **nowhere)
+    says("pcscd is not running", "tools/box", "alarms", **nowhere)
     with card("examples/box.script") as reader:
         scriptor_ends("Card was reset.", lambda _: OpenscTool().reset())
         for slip in ("00B2010C0", " 00B2010C00", "00B2010C00 ", "00 B2 010C00", "quit"):
             scriptor_ends("ascii_to_array: wrong value", lambda scriptor: scriptor.send("0020000106313233343536"), slip)
         check("a slip does not reset the card", reader.after_commands() == "power off", reader.said())
         scriptor = Scriptor()
-        says("another program is using the card", "tools/alarms")
+        says("another program is using the card", "tools/box", "alarms")
         scriptor.end()
 
         def removed(_):
@@ -248,13 +260,15 @@ def programs():
 
 status_words()
 service()
-transcripts("", card("examples/box.script"), "STANDBY", "OFFICE")  # the office opens what the standby phone has blocked
-transcripts("", card("examples/box.script"), "ELECTRICIAN")
-transcripts("mode 1", changed_box("board", "\t123456\t3\t1\t"), *PAGES)
-with tempfile.TemporaryDirectory(prefix="limpet-home-") as home:  # the page has the key there
+os.environ["NO_COLOR"] = "1"
+with tempfile.TemporaryDirectory(prefix="limpet-home-") as home:  # the pages have a key and a config file there
     with open(os.path.join(home, "box.key"), "w", encoding="ascii", opener=lambda name, flags: os.open(name, flags, 0o600)) as key_file:
         key_file.write(f"{TRANSPORT_KEY}\n")
     os.environ["HOME"] = home
+    transcripts("", card("examples/box.script"), "STANDBY", "OFFICE")  # the office opens what the standby phone has blocked
+    transcripts("", card("examples/box.script"), "ELECTRICIAN")
+    transcripts("", card("examples/box.script"), "BY-HAND")
+    transcripts("mode 1", changed_box("board", "\t123456\t3\t1\t"), *PAGES)
     transcripts("bus", card("examples/bus.script"), *PAGES)
 coded_session()
 either_pin()

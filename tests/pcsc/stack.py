@@ -12,6 +12,7 @@ import signal
 import subprocess
 import sys
 import tempfile
+import threading
 import time
 
 ROOT = os.path.dirname(os.path.dirname(os.path.dirname(os.path.abspath(__file__))))
@@ -29,6 +30,7 @@ KEY, ADMIN_PIN, USER_PIN, TRANSPORT_KEY = "000102030405060708090A0B0C0D0E0F", "8
 ISSUE_WORDS = [KEY, "128", ADMIN_PIN, "5", USER_PIN, "3", TRANSPORT_KEY, "10"]  # without a mode, which is mode 0
 
 passed = failed = 0
+counting = threading.Lock()
 
 # So that what was started is ended where a test is stopped from outside.
 signal.signal(signal.SIGTERM, lambda *_: sys.exit(1))
@@ -40,11 +42,12 @@ signal.signal(signal.SIGQUIT, signal.SIG_DFL)
 def check(name, good, seen=""):
     """Counts a test. seen: what there was, to be printed where it is not good."""
     global passed, failed
-    if good:
-        passed += 1
-    else:
-        failed += 1
-        print(f"FAILED: {name}{': ' if seen else ''}{seen}")
+    with counting:
+        if good:
+            passed += 1
+        else:
+            failed += 1
+            print(f"FAILED: {name}{': ' if seen else ''}{seen}")
     return good
 
 
@@ -134,11 +137,6 @@ def as_if_at_once(said, begun):
     return said.replace(NOT_TAKEN, "").replace("in the reader now, on", "in the reader on") if late else said
 
 
-def card_present(slot=0):
-    listed = subprocess.run(["opensc-tool", "-l"], capture_output=True, text=True, timeout=SECONDS).stdout
-    return re.search(rf"^{slot} +Yes ", listed, re.MULTILINE) is not None
-
-
 class ReaderState(ctypes.Structure):
     """As pcsclite.h has it."""
 
@@ -146,13 +144,21 @@ class ReaderState(ctypes.Structure):
                 ("atr_length", ctypes.c_ulong), ("atr", ctypes.c_ubyte * 33)]
 
 
-def changes(slot=0):
-    """How often pcscd has looked and seen that a card had come to that slot, or was gone from it."""
+def seen_by_pcscd(slot):
     library, context, state = ctypes.CDLL("libpcsclite.so.1"), ctypes.c_long(), ReaderState(reader=READERS[slot].encode())
     library.SCardEstablishContext(ctypes.c_ulong(2), None, None, ctypes.byref(context))
     library.SCardGetStatusChange(context, ctypes.c_ulong(0), ctypes.byref(state), ctypes.c_ulong(1))
     library.SCardReleaseContext(context)
-    return state.event >> 16
+    return state.event
+
+
+def card_present(slot=0):
+    return seen_by_pcscd(slot) & 0x20 != 0  # SCARD_STATE_PRESENT
+
+
+def changes(slot=0):
+    """How often pcscd has looked and seen that a card had come to that slot, or was gone from it."""
+    return seen_by_pcscd(slot) >> 16
 
 
 def wait_for_removal(before, slot=0):
@@ -273,3 +279,24 @@ class OpenscTool:
 
     def reset(self):
         return self.run("--reset").returncode == 0
+
+
+HOLD = """
+import ctypes, sys
+library, context, card, protocol = ctypes.CDLL("libpcsclite.so.1"), ctypes.c_long(), ctypes.c_long(), ctypes.c_ulong()
+library.SCardEstablishContext(ctypes.c_ulong(2), None, None, ctypes.byref(context))
+print(library.SCardConnect(context, sys.argv[1].encode(), ctypes.c_ulong(int(sys.argv[2])), ctypes.c_ulong(3), ctypes.byref(card),
+                           ctypes.byref(protocol)), flush=True)
+sys.stdin.read()
+library.SCardDisconnect(card, ctypes.c_ulong(0))
+"""
+
+
+@contextlib.contextmanager
+def held(slot, share):
+    """The card there is in use by another program; share: 1 for it alone, 2 for others too."""
+    words = [sys.executable, "-c", HOLD, READERS[slot], str(share)]
+    with subprocess.Popen(words, stdin=subprocess.PIPE, stdout=subprocess.PIPE, text=True) as holder:
+        check("another program is connected", holder.stdout.readline() == "0\n")
+        yield
+        holder.stdin.close()

@@ -13,12 +13,12 @@ import threading
 import time
 from unittest import mock
 
+from cable import GET_ATR, OFF, ON, RESET, Line, connected, started
 from mounts import left_out, mounted
 from stack import (ADMIN_PIN, BEFORE_WORD, ISSUE_WORDS, KEY, NOT_TAKEN, READER, ROOT, SECONDS, TRANSPORT_KEY, UNSERVED, USER_PIN,
-                   X86, Reader, as_if_at_once, check, code_of, end, issue_line, wait_until, with_mode)
+                   X86, as_if_at_once, check, code_of, end, issue_line, wait_until, with_mode)
 
 DISK = os.path.join(ROOT, "target", "reader", "disk")  # the reader over disk.c
-OFF, ON, RESET, GET_ATR = (bytes([code]) for code in (0, 1, 2, 4))
 QUERY, RIGHT_PIN = bytes.fromhex("00200001"), bytes.fromhex("0020000106313233343536")
 GET_RESPONSE = bytes.fromhex("00C0000000")  # all that wait
 
@@ -124,51 +124,6 @@ def scripts():
 
 
 # ---- messages
-
-
-class Line:
-    """The virtual reader's end of the connection."""
-
-    def __init__(self, connection):
-        self.connection = connection
-        connection.settimeout(SECONDS)
-
-    def put(self, body):
-        self.connection.sendall(len(body).to_bytes(2, "big") + body)
-
-    def get(self):
-        head = self.bytes(2)
-        return self.bytes(int.from_bytes(head, "big"))
-
-    def bytes(self, count):
-        got = b""
-        while len(got) < count:
-            part = self.connection.recv(count - len(got))
-            if not part:
-                raise RuntimeError("the reader closed the connection")
-            got += part
-        return got
-
-    def ask(self, body):
-        self.put(body)
-        return self.get().hex().upper()
-
-
-@contextlib.contextmanager
-def started(port, *words, program=READER):
-    reader = Reader(["--port", str(port), *(words or ISSUE_WORDS)], program)
-    try:
-        yield reader
-    finally:
-        reader.end()
-
-
-@contextlib.contextmanager
-def connected(*words, program=READER):
-    with socket.create_server(("127.0.0.1", 0)) as server:
-        server.settimeout(SECONDS)
-        with started(server.getsockname()[1], *words, program=program) as reader, server.accept()[0] as connection:
-            yield Line(connection), reader
 
 
 def messages():
