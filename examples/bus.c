@@ -30,13 +30,13 @@ static void need(int good, const char *otherwise)
 static void give(const char *name, const uint8_t *command, size_t length)
 {
     uint8_t fresh[LIMPET_RANDOM_SIZE];
-    size_t count;
+    limpet_size count;
 
     need(getrandom(fresh, sizeof fresh, 0) == (ssize_t)sizeof fresh, "there are no random bytes");
     need(limpet_command(card, area, sizeof area, command, length, fresh, sizeof fresh, reply, sizeof reply, &count) == LIMPET_OK,
          "the command is not served");
     printf("%s: ", name);
-    for (size_t i = 0; i < count; i++)
+    for (limpet_size i = 0; i < count; i++)
         printf("%s%02X", i > 0 && i == count - 2 ? " " : "", reply[i]);
     putchar('\n');
 }

@@ -47,7 +47,7 @@ static void need(bool good, const char *otherwise)
 /* A new file takes the place of the card's once it is on the disk. So at any moment there is one of them, and it is whole. */
 static bool store(void)
 {
-    size_t length;
+    limpet_size length;
     uint8_t outcome = limpet_to_text(card, own.area, sizeof own.area, own.text, sizeof own.text, &length);
     int before = file;
 
@@ -70,7 +70,7 @@ static unsigned give(const char *name, const uint8_t *command, size_t length)
 {
     static const uint8_t get_response[] = { 0x00, 0xC0, 0x00, 0x00, 0x00 };
     uint8_t fresh[LIMPET_RANDOM_SIZE], outcome;
-    size_t count;
+    limpet_size count;
     unsigned sw;
 
     need(getrandom(fresh, sizeof fresh, 0) == (ssize_t)sizeof fresh, "there are no random bytes");

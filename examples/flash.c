@@ -86,7 +86,7 @@ static void give(const uint8_t *command, size_t length)
 {
     uint8_t fresh[LIMPET_RANDOM_SIZE], reply[LIMPET_REPLY_SIZE], value, given, outcome;
     uint16_t address;
-    size_t n = 0, count;
+    limpet_size n = 0, count;
 
     need(getrandom(fresh, sizeof fresh, 0) == (ssize_t)sizeof fresh, "there are no random bytes");
     do {
@@ -97,14 +97,14 @@ static void give(const uint8_t *command, size_t length)
     } while (given == 1);
     outcome = limpet_command(card, area, LIMPET_AREA_SIZE, command, length, fresh, sizeof fresh, reply, sizeof reply, &count);
     need(outcome == LIMPET_OK, "the command is not served");
-    for (size_t i = 0; i < count; i++)
+    for (limpet_size i = 0; i < count; i++)
         printf("%s%02X", i > 0 && i == count - 2 ? " " : "", reply[i]);
     putchar('\n');
     need(fflush(stdout) == 0, "the answer cannot be written");
 }
 
 /* The next line of standard input. One that breaks off before its end is none, and costs no try. */
-static bool next(uint8_t *command, size_t *length)
+static bool next(uint8_t *command, limpet_size *length)
 {
     char line[2 * LONGEST_COMMAND + 2]; /* the digits, a newline and a byte 0 */
     size_t digits;
@@ -134,7 +134,7 @@ static void make(const char *name)
 int main(int count, char **words)
 {
     uint8_t command[LONGEST_COMMAND];
-    size_t length;
+    limpet_size length;
     char rest;
 
     need((count == 2 || count == 3) && words[1][0] != '-', USAGE);

@@ -9,18 +9,19 @@
  * at the same time, from several threads or from an interrupt, as long as
  * nothing else writes a buffer of a running call or reads its output.
  *
- * What to link: target/staticlib/liblimpetnook.a, which has all that is
- * declared here. `rt staticlib limpetnook` makes it. It is for x86-64 with the
- * System V calling convention (Linux), on whichever machine it is built; the kit
- * makes it for no other processor. So the compiler has to be one for x86-64 too:
+ * What to link: liblimpetnook.a, which has all that is declared here. tools/library
+ * proves and makes it for six processors; `tools/library --list` names them. For a
+ * program on x86-64 with Linux:
  *
- *   gcc -std=c11 -Iinclude examples/client.c target/staticlib/liblimpetnook.a -o client
+ *   tools/library x86_64-linux
+ *   gcc -std=c11 -Iinclude examples/client.c target/library/x86_64-linux/liblimpetnook.a -o client
  *
- * On Arm it is x86_64-linux-gnu-gcc in gcc's place, and tools/x86/run ./client
- * runs what it makes. docs/C.md leads through all of it, with a whole program,
- * examples/client.c. The bytes of commands and answers are in docs/COMMANDS.md.
+ * docs/C.md leads through all of it, with a whole program, examples/client.c, and
+ * docs/PROCESSORS.md has the other processors. The bytes of commands and answers are
+ * in docs/COMMANDS.md.
  *
- * What is taken at most, measured and not proved (tests/footprint):
+ * What is taken at most on x86-64, measured and not proved (tests/footprint);
+ * docs/PROCESSORS.md has the same of the others:
  *
  *                     code    constants   stack of a call      C functions needed
  *   liblimpetnook.a   92000   1250        LIMPET_TEXT_STACK    memcpy, memset
@@ -42,6 +43,15 @@ extern "C" {
 #endif
 
 /*
+ * A number of bytes: 64 bits on every processor. On a 64-bit Linux it is what size_t
+ * is. On a 32-bit processor it is wider, so a count there has to be a limpet_size.
+ */
+typedef uint64_t limpet_size;
+
+/* The library is for bytes of 8 bits. */
+typedef char limpet_a_byte_has_8_bits[sizeof(limpet_size) == 8 ? 1 : -1];
+
+/*
  * The version of the library that this header describes. It rises by one with
  * each change of the card, the cipher or the calls, which the size of a card
  * need not show.
@@ -57,7 +67,11 @@ uint32_t limpet_version(void);
  * The bytes of stack that are enough for a call: on a card, of its two calls
  * for a text and the two that convert one, of limpet_aes128, and of limpet_code.
  */
+#ifdef __x86_64__
 #define LIMPET_CARD_STACK 5632
+#else
+#define LIMPET_CARD_STACK 7168
+#endif
 #define LIMPET_TEXT_STACK 18432
 #define LIMPET_AES128_STACK 512
 #define LIMPET_CODE_STACK 768
@@ -132,13 +146,14 @@ uint32_t limpet_version(void);
  *
  * No buffer has to be aligned. Which instructions a call runs, and at which
  * addresses it reads and writes, depends on the pointers and the numbers alone
- * and not on the bytes of key and block. That was seen in the compiled code and
- * is not proved (tests/constant-time). How long a processor takes for the same
+ * and not on the bytes of key and block. That was seen in the compiled code for
+ * x86-64, aarch64, Cortex-M33 and Cortex-M4, and not in that for armv7 and riscv64,
+ * and is not proved (tests/constant-time). How long a processor takes for the same
  * instructions at the same addresses is its maker's matter.
  */
-uint8_t limpet_aes128(const uint8_t *key, size_t key_len,
-                      const uint8_t *block, size_t block_len,
-                      uint8_t *out, size_t out_len);
+uint8_t limpet_aes128(const uint8_t *key, limpet_size key_len,
+                      const uint8_t *block, limpet_size block_len,
+                      uint8_t *out, limpet_size out_len);
 
 /*
  * The code of a command, for the main board's side: for whoever sends commands to
@@ -186,12 +201,13 @@ uint8_t limpet_aes128(const uint8_t *key, size_t key_len,
  * one, each takes the other's commands where their challenges are the same.
  *
  * Which instructions a call runs, and at which addresses it reads and writes, depends
- * on the pointers and the numbers alone and not on the bytes, as with limpet_aes128.
+ * on the pointers and the numbers alone and not on the bytes, as with limpet_aes128; on
+ * Arm that was seen for messages of six lengths from 0 to 53 bytes.
  */
-uint8_t limpet_code(const uint8_t *key, size_t key_len,
-                    const uint8_t *challenge, size_t challenge_len,
-                    const uint8_t *message, size_t message_len,
-                    uint8_t *code, size_t code_len);
+uint8_t limpet_code(const uint8_t *key, limpet_size key_len,
+                    const uint8_t *challenge, limpet_size challenge_len,
+                    const uint8_t *message, limpet_size message_len,
+                    uint8_t *code, limpet_size code_len);
 
 /*
  * A card: its credentials, tries, directories, files and session. What is in it
@@ -235,7 +251,7 @@ struct limpet_card;
  */
 #define LIMPET_CARD_SIZE 581
 
-size_t limpet_card_size(void);
+limpet_size limpet_card_size(void);
 
 /*
  * Issues a card: full tries, no files and no directories, the root current, no
@@ -262,12 +278,12 @@ size_t limpet_card_size(void);
  * earlier card, issue into another one.
  */
 uint8_t limpet_issue(struct limpet_card *card,
-                     uint8_t *area, size_t area_len,
-                     const uint8_t *key, size_t key_len, uint16_t device_limit,
-                     const uint8_t *admin_pin, size_t admin_pin_len, uint16_t admin_limit,
-                     const uint8_t *user_pin, size_t user_pin_len, uint16_t user_limit,
+                     uint8_t *area, limpet_size area_len,
+                     const uint8_t *key, limpet_size key_len, uint16_t device_limit,
+                     const uint8_t *admin_pin, limpet_size admin_pin_len, uint16_t admin_limit,
+                     const uint8_t *user_pin, limpet_size user_pin_len, uint16_t user_limit,
                      uint16_t mode,
-                     const uint8_t *transport_key, size_t transport_key_len, uint16_t transport_limit);
+                     const uint8_t *transport_key, limpet_size transport_key_len, uint16_t transport_limit);
 
 /*
  * Gives the card one command, of any bytes and any length, also none, and has
@@ -300,11 +316,11 @@ uint8_t limpet_issue(struct limpet_card *card,
  * a reset. In mode 0 there is no GET RESPONSE, and nothing waits.
  */
 uint8_t limpet_command(struct limpet_card *card,
-                       uint8_t *area, size_t area_len,
-                       const uint8_t *command, size_t command_len,
-                       const uint8_t *random, size_t random_len,
-                       uint8_t *reply, size_t reply_len,
-                       size_t *reply_count);
+                       uint8_t *area, limpet_size area_len,
+                       const uint8_t *command, limpet_size command_len,
+                       const uint8_t *random, limpet_size random_len,
+                       uint8_t *reply, limpet_size reply_len,
+                       limpet_size *reply_count);
 
 /*
  * Resets the card, as taking it out of the reader does: no right is held, the
@@ -319,7 +335,7 @@ uint8_t limpet_command(struct limpet_card *card,
  * There is no other outcome, and the first that applies is returned. On a
  * refusal the card is as it was.
  */
-uint8_t limpet_reset(struct limpet_card *card, const uint8_t *area, size_t area_len);
+uint8_t limpet_reset(struct limpet_card *card, const uint8_t *area, limpet_size area_len);
 
 /*
  * The n-th store that a command makes, from 0 on: for a module whose memory keeps
@@ -368,10 +384,10 @@ uint8_t limpet_reset(struct limpet_card *card, const uint8_t *area, size_t area_
  * many stores.
  */
 uint8_t limpet_store(const struct limpet_card *card,
-                     const uint8_t *area, size_t area_len,
-                     const uint8_t *command, size_t command_len,
-                     const uint8_t *random, size_t random_len,
-                     size_t n,
+                     const uint8_t *area, limpet_size area_len,
+                     const uint8_t *command, limpet_size command_len,
+                     const uint8_t *random, limpet_size random_len,
+                     limpet_size n,
                      uint16_t *address, uint8_t *value, uint8_t *given);
 
 /*
@@ -390,11 +406,11 @@ uint8_t limpet_store(const struct limpet_card *card,
  * for number 0, make that store, and then ask from number 1 on.
  */
 uint8_t limpet_stores(const struct limpet_card *card,
-                      const uint8_t *area, size_t area_len,
-                      const uint8_t *command, size_t command_len,
-                      const uint8_t *random, size_t random_len,
+                      const uint8_t *area, limpet_size area_len,
+                      const uint8_t *command, limpet_size command_len,
+                      const uint8_t *random, limpet_size random_len,
                       uint16_t first,
-                      uint8_t *stores, size_t stores_len, size_t *count);
+                      uint8_t *stores, limpet_size stores_len, limpet_size *count);
 
 /*
  * Makes a card of what a loss of power left in such a memory, in the middle of a
@@ -420,7 +436,7 @@ uint8_t limpet_stores(const struct limpet_card *card,
  * the lowest address to the highest. Where the power is lost in between, the next
  * recovery gives the same card.
  */
-uint8_t limpet_recover(struct limpet_card *card, const uint8_t *area, size_t area_len);
+uint8_t limpet_recover(struct limpet_card *card, const uint8_t *area, limpet_size area_len);
 
 /*
  * Writes a card and its files as lines of text. docs/CARD-FILE.md says what
@@ -439,9 +455,9 @@ uint8_t limpet_recover(struct limpet_card *card, const uint8_t *area, size_t are
  * refusal the buffer is as it was, and *text_count is 0.
  */
 uint8_t limpet_to_text(const struct limpet_card *card,
-                       const uint8_t *area, size_t area_len,
-                       uint8_t *text, size_t text_len,
-                       size_t *text_count);
+                       const uint8_t *area, limpet_size area_len,
+                       uint8_t *text, limpet_size text_len,
+                       limpet_size *text_count);
 
 /*
  * Reads a card and its files from such a text. What the card's bytes were
@@ -467,8 +483,8 @@ uint8_t limpet_to_text(const struct limpet_card *card,
  * written and is read again is the same card with the same files.
  */
 uint8_t limpet_from_text(struct limpet_card *card,
-                         uint8_t *area, size_t area_len,
-                         const uint8_t *text, size_t text_len);
+                         uint8_t *area, limpet_size area_len,
+                         const uint8_t *text, limpet_size text_len);
 
 /*
  * Before there were directories a card's text had another form. It is the old
@@ -502,20 +518,20 @@ uint8_t limpet_from_text(struct limpet_card *card,
  * those of the new one are what limpet_text_to_old serves, and what it refuses with
  * LIMPET_DIRECTORY.
  */
-uint8_t limpet_text_to_new(const uint8_t *old, size_t old_len,
-                           uint8_t *text, size_t text_len,
-                           size_t *text_count);
+uint8_t limpet_text_to_new(const uint8_t *old, limpet_size old_len,
+                           uint8_t *text, limpet_size text_len,
+                           limpet_size *text_count);
 
-uint8_t limpet_text_to_old(const uint8_t *text_given, size_t given_len,
-                           uint8_t *text, size_t text_len,
-                           size_t *text_count);
+uint8_t limpet_text_to_old(const uint8_t *text_given, limpet_size given_len,
+                           uint8_t *text, limpet_size text_len,
+                           limpet_size *text_count);
 
 /*
  * The caller's side of the eight calls on a card and of the two that convert a
  * text:
  *   - card points to limpet_card_size() bytes that can be read, and written
  *     too where the pointer is not to const, and is never NULL. reply_count,
- *     text_count and count each point to a size_t, and address to a uint16_t, aligned as
+ *     text_count and count each point to a limpet_size, and address to a uint16_t, aligned as
  *     such, value and given to a byte; none is NULL, and what they hold before does
  *     not matter.
  *   - Each other buffer is a pointer and a number of bytes. So many bytes can

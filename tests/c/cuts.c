@@ -13,6 +13,7 @@
  * and behind the newline those. Where the card goes on as it was found after some
  * of them: C and that number. At the end: E, the number of commands and of cuts.
  */
+#include <inttypes.h>
 #include <stdbool.h>
 #include <stdio.h>
 #include <stdlib.h>
@@ -38,7 +39,7 @@ static void usage(FILE *to)
 
 struct found {
     uint8_t at[LIMPET_TEXT_SIZE];
-    size_t count;
+    limpet_size count;
 };
 
 /* A command that is cut: its stores, the bytes of card and area after some of them, and a run of cards with the same text. */
@@ -72,7 +73,7 @@ static void print_run(size_t last)
         front++;
     while (back < most - front && f->at[f->count - 1 - back] == printed.at[printed.count - 1 - back])
         back++;
-    printf("R %zu %zu %zu %zu %zu\n", cut.first, last, front, back, f->count - front - back);
+    printf("R %zu %zu %zu %zu %" PRIu64 "\n", cut.first, last, front, back, f->count - front - back);
     fwrite(f->at + front, 1, f->count - front - back, stdout);
     printed = *f;
 }

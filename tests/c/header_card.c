@@ -18,7 +18,7 @@ int main(void)
     const uint8_t get_challenge[] = { 0x00, 0x84, 0x00, 0x00, 0x04 };
     const uint8_t get_response[] = { 0x00, 0xC0, 0x00, 0x00, 0x00 };
     uint8_t reply[LIMPET_REPLY_SIZE], text[LIMPET_TEXT_SIZE];
-    size_t count = 0;
+    limpet_size count = 0;
 
     if (limpet_version() != LIMPET_VERSION || limpet_card_size() != LIMPET_CARD_SIZE)
         return 1;

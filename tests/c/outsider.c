@@ -10,6 +10,7 @@
  * of the pair alone, are no outsider's. The pair is not given them: they are tried on
  * a copy, where they have to tell the two apart, and be forgotten by what comes next.
  */
+#include <inttypes.h>
 #include <stdbool.h>
 #include <stdio.h>
 #include <stdlib.h>
@@ -116,7 +117,7 @@ struct call {
 
 struct said {
     uint8_t outcome;
-    size_t count;
+    limpet_size count;
     uint8_t reply[REPLY_ROOM];
 };
 
@@ -315,7 +316,7 @@ static void check_same(const struct pair *p, const struct said said[2])
     if (a->outcome != b->outcome)
         wrong("%s: outcome %u and outcome %u", name_of(p), a->outcome, b->outcome);
     else if (a->count != b->count)
-        wrong("%s: a reply of %zu bytes and one of %zu", name_of(p), a->count, b->count);
+        wrong("%s: a reply of %" PRIu64 " bytes and one of %" PRIu64, name_of(p), a->count, b->count);
     else if (word_of(a) != word_of(b))
         wrong("%s: status words %04X and %04X", name_of(p), word_of(a), word_of(b));
     else if (!are_equal(a->reply, b->reply, 0, sizeof a->reply))

@@ -309,7 +309,7 @@ uint8_t __wrap_limpet_store(const struct limpet_card *card, const uint8_t *area,
     static struct list l;
     static struct step s;
     uint8_t reply[LIMPET_REPLY_SIZE], none;
-    size_t count;
+    limpet_size count;
 
     *address = *value = *given = 0;
     memcpy(&s.before, card, sizeof s.before);

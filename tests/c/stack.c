@@ -1,21 +1,13 @@
 /*
- * How many bytes of stack the calls take. Each call of a script is made on a
- * stack of its own that was filled with one value before; the deepest byte with
- * another value tells. What this program itself puts there is taken off: it
- * is what a line without a call takes.
+ * How many bytes of stack the calls take, and how many instructions where they are counted. What this program itself takes is taken off:
+ * it is what a line without a call takes.
  */
-#define _XOPEN_SOURCE 700 /* ucontext.h */
-
 #include <stdlib.h>
 #include <string.h>
-#include <ucontext.h>
 
 #include "play.h"
+#include "taken.h"
 
-enum { ROOM = 64 * 1024, PART = 1024, FILL = 0xA5 };
-
-static uint8_t stack[ROOM], filled[PART];
-static ucontext_t caller, apart;
 static struct player player;
 static const struct line *playing;
 
@@ -27,7 +19,7 @@ static void usage(FILE *to)
           "command makes, and recovers a copy of the card; after each line it writes and reads\n"
           "the card as a text, and converts it into the other form and back. Prints the most\n"
           "bytes of stack that each kind of call took, and those of limpet_aes128 and\n"
-          "limpet_code.\n", to);
+          "limpet_code; and the instructions, where they are counted.\n", to);
 }
 
 static void play_apart(void)
@@ -53,7 +45,7 @@ static void code_apart(void)
 }
 
 static uint8_t text[LIMPET_TEXT_SIZE];
-static size_t text_count;
+static limpet_size text_count;
 
 static void write_apart(void)
 {
@@ -62,7 +54,7 @@ static void write_apart(void)
 
 /* The text in the old form; none where the card has a directory. */
 static uint8_t old[LIMPET_TEXT_SIZE];
-static size_t old_count;
+static limpet_size old_count;
 
 static void to_old_apart(void)
 {
@@ -73,7 +65,7 @@ static void to_old_apart(void)
 static void to_new_apart(void)
 {
     static uint8_t converted[LIMPET_TEXT_SIZE];
-    size_t count;
+    limpet_size count;
 
     limpet_text_to_new(old_count > 0 ? old : text, old_count > 0 ? old_count : text_count, converted, sizeof converted, &count);
 }
@@ -98,7 +90,7 @@ static void store_apart(void)
 static void stores_apart(void)
 {
     static uint8_t run[9];
-    size_t run_count;
+    limpet_size run_count;
 
     limpet_stores((const struct limpet_card *)player.card, player.area, sizeof player.area, playing->command.at, playing->command.len,
                   playing->random.at, playing->random.len, 1, run, sizeof run, &run_count);
@@ -112,82 +104,71 @@ static void recover_apart(void)
     limpet_recover((struct limpet_card *)card, player.area, sizeof player.area);
 }
 
-/* The stack grows down, so the first byte that changed is the deepest. From it on the stack is filled again. */
-static size_t stack_of(void (*does)(void))
-{
-    size_t untouched = 0;
+/* What each kind of call took at the most. */
+enum call { ISSUE, COMMAND, RESET, STORE, STORES, RECOVER, TO_TEXT, FROM_TEXT, TEXT_TO_OLD, TEXT_TO_NEW, AES128, CODE, CALLS };
 
-    if (getcontext(&apart) != 0)
-        exit(2);
-    apart.uc_stack.ss_sp = stack;
-    apart.uc_stack.ss_size = sizeof stack;
-    apart.uc_link = &caller;
-    makecontext(&apart, does, 0);
-    if (swapcontext(&caller, &apart) != 0)
-        exit(2);
-    while (untouched < sizeof stack && memcmp(stack + untouched, filled, sizeof filled) == 0)
-        untouched += sizeof filled;
-    while (untouched < sizeof stack && stack[untouched] == FILL)
-        untouched++;
-    if (untouched == 0) {
-        fputs("stack: a call took more than there is\n", stderr);
-        exit(2);
+static const char *const names[CALLS] = {
+    "issue", "command", "reset", "store", "stores", "recover", "to_text", "from_text", "text_to_old", "text_to_new", "aes128", "code"
+};
+static struct taken most[CALLS], own;
+
+static void measure(enum call c, void (*call)(void))
+{
+    unsigned long calls = player.calls;
+    struct taken t = taken_by(call);
+
+    if (call == play_apart && player.calls == calls)
+        return; /* a line without a call, such as a reset without a card */
+    if (call == play_apart) {
+        t.stack -= own.stack;
+        t.instructions -= own.instructions;
     }
-    memset(stack + untouched, FILL, sizeof stack - untouched);
-    return sizeof stack - untouched;
+    if (t.stack > most[c].stack)
+        most[c].stack = t.stack;
+    if (t.instructions > most[c].instructions)
+        most[c].instructions = t.instructions;
 }
 
-static void raise_to(size_t *most, size_t taken)
-{
-    if (taken > *most)
-        *most = taken;
-}
-
-static size_t stack_of_line(const struct line *l)
+static void measure_line(const struct line *l)
 {
     playing = l;
-    return stack_of(play_apart);
+    if (l->kind == CMD_LINE) {
+        measure(STORE, store_apart);
+        measure(STORES, stores_apart);
+        measure(RECOVER, recover_apart);
+    }
+    if (l->kind != OTHER_LINE)
+        measure(l->kind == ISSUE_LINE ? ISSUE : l->kind == CMD_LINE ? COMMAND : RESET, play_apart);
+    measure(TO_TEXT, write_apart);
+    measure(FROM_TEXT, read_apart);
+    measure(TEXT_TO_OLD, to_old_apart);
+    measure(TEXT_TO_NEW, to_new_apart);
 }
 
 int main(int count, char **arguments)
 {
     static const struct line no_call = { .wrong = "no call" };
-    static const char *const names[] = { [ISSUE_LINE] = "issue", [CMD_LINE] = "command", [RESET_LINE] = "reset" };
-    size_t lines, most[] = { [ISSUE_LINE] = 0, [CMD_LINE] = 0, [RESET_LINE] = 0 }, most_written = 0, most_read = 0,
-           most_to_old = 0, most_to_new = 0, most_store = 0, most_stores = 0, most_recovered = 0;
+    static struct text text_read;
+    static struct line line;
 
     if (count != 1) {
         usage(count == 2 && strcmp(arguments[1], "--help") == 0 ? stdout : stderr);
         return count == 2 && strcmp(arguments[1], "--help") == 0 ? EXIT_SUCCESS : 2;
     }
-    memset(stack, FILL, sizeof stack);
-    memset(filled, FILL, sizeof filled);
-    size_t own = stack_of_line(&no_call);
-    struct played *script = read_script(stdin, &lines);
-    for (size_t i = 0; i < lines; i++) {
-        if (script[i].line.kind == CMD_LINE) {
-            playing = &script[i].line;
-            raise_to(&most_store, stack_of(store_apart));
-            raise_to(&most_stores, stack_of(stores_apart));
-            raise_to(&most_recovered, stack_of(recover_apart));
-        }
-        raise_to(&most[script[i].line.kind], stack_of_line(&script[i].line) - own);
-        raise_to(&most_written, stack_of(write_apart));
-        raise_to(&most_read, stack_of(read_apart));
-        raise_to(&most_to_old, stack_of(to_old_apart));
-        raise_to(&most_to_new, stack_of(to_new_apart));
+    playing = &no_call;
+    own = taken_by(play_apart);
+    while (read_text(stdin, &text_read)) {
+        read_line(&text_read, &line);
+        measure_line(&line);
     }
-    free(script);
-    for (enum kind k = ISSUE_LINE; k <= RESET_LINE; k++)
-        printf("%zu bytes of stack: %s\n", most[k], names[k]);
-    printf("%zu bytes of stack: store\n", most_store);
-    printf("%zu bytes of stack: stores\n", most_stores);
-    printf("%zu bytes of stack: recover\n", most_recovered);
-    printf("%zu bytes of stack: to_text\n", most_written);
-    printf("%zu bytes of stack: from_text\n", most_read);
-    printf("%zu bytes of stack: text_to_old\n", most_to_old);
-    printf("%zu bytes of stack: text_to_new\n", most_to_new);
-    printf("%zu bytes of stack: aes128\n", stack_of(encipher_apart));
-    printf("%zu bytes of stack: code\n", stack_of(code_apart));
+    measure(AES128, encipher_apart);
+    measure(CODE, code_apart);
+    /* Nothing is said of a kind of call that the script has not. */
+    for (enum call c = ISSUE; c < CALLS; c++)
+        if (most[c].stack > 0)
+            printf("%lu bytes of stack: %s\n", most[c].stack, names[c]);
+    for (enum call c = ISSUE; c < CALLS; c++)
+        if (most[c].instructions > 0)
+            printf("%lu instructions: %s\n", most[c].instructions, names[c]);
     return EXIT_SUCCESS;
 }

@@ -1,5 +1,6 @@
 #include "stores.h"
 
+#include <inttypes.h>
 #include <stdlib.h>
 #include <string.h>
 
@@ -56,13 +57,13 @@ static void check_store(const struct asked *a, unsigned given)
 static void check_run(const struct held *h, struct given command, struct given random, uint16_t first, size_t room, uint8_t outcome, const struct store *stores, size_t due)
 {
     static uint8_t filled[3 * 2 * LIMPET_AREA_SIZE], card[LIMPET_CARD_SIZE], area[2 * LIMPET_AREA_SIZE];
-    static const uint8_t any[sizeof(size_t)] = { 0xA5, 0x5A };
+    static const uint8_t any[sizeof(limpet_size)] = { 0xA5, 0x5A };
 
     for (size_t i = 0; i < room; i++)
         filled[i] = (uint8_t)(7 * i + 1);
     struct lent sent = lend(command.bytes, command.length), fresh = lend(random.bytes, random.length);
     struct lent out = lend(filled, room), number = lend_at(0, any, sizeof any);
-    size_t count;
+    limpet_size count;
 
     memcpy(card, h->card.bytes, sizeof card);
     if (h->area.length > 0)
@@ -70,10 +71,10 @@ static void check_run(const struct held *h, struct given command, struct given r
     calls++;
     check_outcome("stores", limpet_stores((const struct limpet_card *)h->card.bytes, start(&h->area, h->has_no_area), h->area.length,
                                           start(&sent, command.is_null), sent.length, start(&fresh, random.is_null), fresh.length,
-                                          first, out.bytes, room, (size_t *)(void *)number.bytes), outcome);
+                                          first, out.bytes, room, (limpet_size *)(void *)number.bytes), outcome);
     memcpy(&count, number.bytes, sizeof count);
     if (count != due)
-        wrong("a run from %u into %zu bytes gives %zu stores, and %zu are due", first, room, count, due);
+        wrong("a run from %u into %zu bytes gives %" PRIu64 " stores, and %zu are due", first, room, count, due);
     for (size_t i = 0; i < due; i++) {
         filled[3 * i] = (uint8_t)(stores[i].address >> 8);
         filled[3 * i + 1] = (uint8_t)stores[i].address;

@@ -10,6 +10,7 @@
  */
 #define _DEFAULT_SOURCE /* MAP_ANONYMOUS */
 
+#include <inttypes.h>
 #include <stdbool.h>
 #include <stdio.h>
 #include <stdlib.h>
@@ -236,12 +237,12 @@ static uint8_t *area_of(const struct held *h)
 }
 
 /* What the writer left in a buffer of noise: the text, and behind it nothing; all of it noise where it refuses. */
-static void check_text(const struct lent *text, size_t count, uint8_t outcome, struct bytes due)
+static void check_text(const struct lent *text, limpet_size count, uint8_t outcome, struct bytes due)
 {
     check_guards("text", text);
     if (outcome != LIMPET_OK) {
         if (count != 0)
-            wrong("refused, and the text has %zu bytes", count);
+            wrong("refused, and the text has %" PRIu64 " bytes", count);
         if (!are_same(text->bytes, noise(), text->length))
             wrong("refused, and the text was written");
         return;
@@ -251,21 +252,21 @@ static void check_text(const struct lent *text, size_t count, uint8_t outcome, s
         return;
     }
     if (!are_same(text->bytes + count, noise() + count, text->length - count))
-        wrong("the buffer was written past the text's %zu bytes", count);
+        wrong("the buffer was written past the text's %" PRIu64 " bytes", count);
 }
 
 /* Writes the card into a text buffer of that room, which is to end so. */
 static void write_text(struct held *h, size_t room, uint8_t due_outcome, struct bytes due)
 {
     static struct kept before;
-    size_t count = (size_t)-1 / 3; /* what it holds before does not matter */
+    limpet_size count = (limpet_size)-1 / 3; /* what it holds before does not matter */
     struct lent text = lend(noise(), room);
     struct lent counted = lend_at(0, (const uint8_t *)&count, sizeof count);
 
     keep(&before, h);
     calls++;
     uint8_t outcome = limpet_to_text((const struct limpet_card *)h->card.bytes, area_of(h), h->area.length,
-                                     start(&text), room, (size_t *)(void *)counted.bytes);
+                                     start(&text), room, (limpet_size *)(void *)counted.bytes);
     memcpy(&count, counted.bytes, sizeof count);
     check_outcome("to text", outcome, due_outcome);
     check_kept("card", &h->card, before.card);
@@ -460,7 +461,8 @@ static void reset(struct run *r)
 static void write_from_read_only(const struct held *h, struct bytes due)
 {
     static uint8_t text[LIMPET_TEXT_SIZE];
-    size_t count = 0, taken = LIMPET_CARD_SIZE + LIMPET_AREA_SIZE;
+    limpet_size count = 0;
+    size_t taken = LIMPET_CARD_SIZE + LIMPET_AREA_SIZE;
     uint8_t *page = mmap(NULL, taken, PROT_READ | PROT_WRITE, MAP_PRIVATE | MAP_ANONYMOUS, -1, 0);
 
     if (page == MAP_FAILED)
@@ -552,7 +554,7 @@ static void try_both_ways(struct held *h)
     struct held other = hold_noise(LIMPET_AREA_SIZE);
     struct bytes card = { h->card.bytes, LIMPET_CARD_SIZE };
     struct bytes contents = { h->area.bytes, taken_bytes(h->card.bytes) };
-    size_t count = 0;
+    limpet_size count = 0;
 
     calls++;
     uint8_t outcome = limpet_to_text((const struct limpet_card *)h->card.bytes, h->area.bytes, LIMPET_AREA_SIZE,
@@ -614,7 +616,7 @@ static void try_lengths(struct run *r, const struct model *m)
 
 /* ---- conversions ---- */
 
-typedef uint8_t convert(const uint8_t *given, size_t given_len, uint8_t *text, size_t text_len, size_t *text_count);
+typedef uint8_t convert(const uint8_t *given, limpet_size given_len, uint8_t *text, limpet_size text_len, limpet_size *text_count);
 
 /* A call that converts, and the one that goes back. */
 struct way {
@@ -650,12 +652,12 @@ static uint8_t due_with(const struct conversion *c, size_t room)
 /* Converts a text into a buffer of that room, which is to end so. */
 static void convert_text(const char *name, convert *call, struct bytes text, size_t room, uint8_t due_outcome, struct bytes due)
 {
-    size_t count = (size_t)-1 / 3; /* what it holds before does not matter */
+    limpet_size count = (limpet_size)-1 / 3; /* what it holds before does not matter */
     struct lent given = lend(text.at, text.len), made = lend(noise(), room);
     struct lent counted = lend_at(0, (const uint8_t *)&count, sizeof count);
 
     calls++;
-    uint8_t outcome = call(start(&given), given.length, start(&made), room, (size_t *)(void *)counted.bytes);
+    uint8_t outcome = call(start(&given), given.length, start(&made), room, (limpet_size *)(void *)counted.bytes);
     memcpy(&count, counted.bytes, sizeof count);
     check_outcome(name, outcome, due_outcome);
     check_kept("given text", &given, text.at);
@@ -712,7 +714,7 @@ static void try_conversion(struct run *r, struct bytes name, const struct conver
 static void convert_from_read_only(const struct conversion *c)
 {
     static uint8_t text[LIMPET_TEXT_SIZE];
-    size_t count = 0;
+    limpet_size count = 0;
     uint8_t *page = mmap(NULL, c->given.len, PROT_READ | PROT_WRITE, MAP_PRIVATE | MAP_ANONYMOUS, -1, 0);
 
     if (page == MAP_FAILED)

@@ -28,7 +28,7 @@ static const uint8_t pin[LONGEST] = "3141592653589793"; /* without its end */
 static void command(const uint8_t *bytes, size_t length, unsigned due)
 {
     uint8_t reply[LIMPET_REPLY_SIZE];
-    size_t count;
+    limpet_size count;
     uint8_t outcome = limpet_command((struct limpet_card *)card, area, sizeof area, bytes, length,
                                      c1_block, sizeof c1_block, reply, sizeof reply, &count);
     unsigned sw = outcome == LIMPET_OK ? 256u * reply[count - 2] + reply[count - 1] : 0;

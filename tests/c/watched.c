@@ -1,5 +1,6 @@
 #include "watched.h"
 
+#include <inttypes.h>
 #include <stdarg.h>
 #include <stdio.h>
 #include <stdlib.h>
@@ -31,7 +32,7 @@ void wrong(const char *format, ...)
 void check_version(void)
 {
     if (limpet_version() != LIMPET_VERSION || limpet_card_size() != LIMPET_CARD_SIZE) {
-        fprintf(stderr, "the library is of version %u and its card takes %zu bytes; the header has %d and %d\n",
+        fprintf(stderr, "the library is of version %u and its card takes %" PRIu64 " bytes; the header has %d and %d\n",
                 (unsigned)limpet_version(), limpet_card_size(), LIMPET_VERSION, LIMPET_CARD_SIZE);
         exit(2);
     }
@@ -254,15 +255,15 @@ static void check_reply(const struct lent *reply, const uint8_t *before, const s
 
     check_guards("reply", reply);
     if (a->outcome == LIMPET_OK && (a->count < 2 || a->count > most)) {
-        wrong("the answer has %zu bytes", a->count);
+        wrong("the answer has %" PRIu64 " bytes", a->count);
         return;
     }
     if (a->outcome != LIMPET_OK && a->count != 0) {
-        wrong("refused, and the answer has %zu bytes", a->count);
+        wrong("refused, and the answer has %" PRIu64 " bytes", a->count);
         return;
     }
     if (reply->length > 0 && memcmp(reply->bytes + a->count, before + a->count, reply->length - a->count) != 0)
-        wrong("the reply was written past the answer's %zu bytes", a->count);
+        wrong("the reply was written past the answer's %" PRIu64 " bytes", a->count);
 }
 
 /* The buffers that a command call lends besides card and area. */
@@ -272,7 +273,7 @@ struct buffers {
 
 static struct buffers lend_buffers(struct given command, struct given random, const uint8_t *reply, size_t reply_length)
 {
-    size_t count = (size_t)-1 / 3; /* what it holds before does not matter */
+    limpet_size count = (limpet_size)-1 / 3; /* what it holds before does not matter */
 
     return (struct buffers){
         lend_given(command), lend_given(random), lend(reply, reply_length),
@@ -322,7 +323,7 @@ static void set_reply(struct due *d, const uint8_t *data, size_t length, unsigne
 static void check_due(const struct held *h, const struct answer *a, const struct due *d)
 {
     if (a->count != d->count || memcmp(a->reply, d->reply, d->count) != 0)
-        wrong("the answer has %zu bytes and ends %02X%02X, and %zu are due that end %02X%02X; or its data are others", a->count,
+        wrong("the answer has %" PRIu64 " bytes and ends %02X%02X, and %zu are due that end %02X%02X; or its data are others", a->count,
               a->reply[a->count - 2], a->reply[a->count - 1], d->count, d->reply[d->count - 2], d->reply[d->count - 1]);
     check_card(h, (const uint8_t *)&d->card, "the card or what waits is not as the command must leave it");
     check_area(h, d->area);
@@ -626,7 +627,7 @@ struct answer watched_command(struct held *h, struct given command, struct given
                                start(&b.command, command.is_null), b.command.length,
                                start(&b.random, random.is_null), b.random.length,
                                start(&b.reply, reply_is_null), b.reply.length,
-                               (size_t *)(void *)b.count.bytes);
+                               (limpet_size *)(void *)b.count.bytes);
 
     memcpy(&a.count, b.count.bytes, sizeof a.count);
     if (reply_length > 0)

@@ -40,7 +40,7 @@ enum { LONGEST_REPLY = 4096 };
 
 struct answer {
     uint8_t outcome;
-    size_t count; /* bytes of the reply that are the answer */
+    limpet_size count; /* bytes of the reply that are the answer */
     uint8_t reply[LONGEST_REPLY];
 };
 

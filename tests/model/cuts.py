@@ -5,9 +5,9 @@ Written from the papers alone, as the card is. A command is a list of single sto
 the papers say so. What is found is a card's text: a `View` of it has all that lasts, the records of 2C and 2E files as lists, so
 that bytes in no record are not looked at.
 
-PROGRAM, for x86-64, is tests/c/cuts.c as it is built: it plays a script, cuts every command after every number of stores, and prints
-the stores and what was found. A script is one test: of each seed a generated one, and each FILE. With --all every family of commands
-has to be reached by them together.
+PROGRAM is tests/c/cuts.c as it is built, for x86-64 where --emulator names nothing else: it plays a script, cuts every command after
+every number of stores, and prints the stores and what was found. A script is one test: of each seed a generated one, and each FILE.
+With --all every family of commands has to be reached by them together.
 """
 
 import argparse
@@ -640,12 +640,13 @@ def main():
     parser.add_argument("--left-cut", metavar="N", help="one command in N is left cut, and the card goes on as it was found")
     parser.add_argument("--all", action="store_true", help="fails where a family of commands was not reached")
     parser.add_argument("--first", action="store_true", help="ends after the first script that fails")
+    parser.add_argument("--emulator", metavar="COMMAND", default=compare.X86, help="what runs PROGRAM (tools/x86/run)")
     parser.add_argument("program", metavar="PROGRAM")
     asked = parser.parse_args()
     if not asked.seeds and not asked.script:
         parser.error("there is nothing to play: --seeds or --script")
     judge = Judge()
-    call = [compare.X86, asked.program] + (["--left-cut", asked.left_cut] if asked.left_cut else [])
+    call = [asked.emulator, asked.program] + (["--left-cut", asked.left_cut] if asked.left_cut else [])
     passed = failed = 0
     for name, lines in scripts_of(asked):
         good = judged(judge, call, lines)

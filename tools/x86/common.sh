@@ -1,6 +1,5 @@
 # What ./limpet and the scripts of bench/, reader/ and tests/ share. They source it from the root of the repository.
 
-library=target/staticlib/liblimpetnook.a
 built=target/c
 reader=target/reader/limpet-reader
 card_program=target/reader/limpet-card
@@ -8,33 +7,57 @@ strict=(-Wall -Wextra -pedantic -Werror -Iinclude)
 # For programs that hold keys and PINs: an overrun buffer ends them, and nothing that they call through can be written.
 hardened=(-O2 -fstack-protector-strong -U_FORTIFY_SOURCE -D_FORTIFY_SOURCE=2 "-Wl,-z,relro,-z,now")
 
-# The programs and libraries here are for x86-64: the compilers for it, and the Debian packages with them and with what watches
-# such a program at work. x86 PROGRAM ARGUMENT... runs one. On another processor it is emulated, and nothing can watch what it does to
-# memory; its instructions can be counted.
+source tools/x86/module.sh
+
+# The programs in C and the library that they are linked with are for $native. Here are the compilers, and the Debian packages with them and
+# with what watches a program at work. x86 PROGRAM ARGUMENT... runs such a program, and one that rt has built. Where that is x86-64 and
+# the machine is not, it is emulated, and nothing can watch what it does to memory; its instructions can be counted.
+library=target/library/$native/liblimpetnook.a
+[ $native != x86_64-linux ] || library=target/staticlib/liblimpetnook.a
+emulated=no
+cc=gcc cxx=g++
+for_c=(gcc libc6-dev) for_cxx=(g++) to_watch=(valgrind)
 if [ "$(uname -m)" = x86_64 ]; then
-    emulated=no
-    cc=gcc cxx=g++
-    for_c=(gcc libc6-dev) for_cxx=(g++) to_watch=(valgrind)
     x86() { "$@"; }
 else
-    emulated=yes
-    cc=x86_64-linux-gnu-gcc cxx=x86_64-linux-gnu-g++
-    for_c=(gcc-x86-64-linux-gnu libc6-dev-amd64-cross) for_cxx=(g++-x86-64-linux-gnu) to_watch=()
     x86() { tools/x86/run "$@"; }
+    if [ $native = x86_64-linux ]; then
+        emulated=yes
+        cc=x86_64-linux-gnu-gcc cxx=x86_64-linux-gnu-g++
+        for_c=(gcc-x86-64-linux-gnu libc6-dev-amd64-cross) for_cxx=(g++-x86-64-linux-gnu) to_watch=()
+        built=target/for-x86 reader=target/for-x86/limpet-reader card_program=target/for-x86/limpet-card
+    fi
 fi
+
+# The Debian packages for the other processors: compilers and emulators for Linux, and those for a board without an operating system.
+for_others=(gcc-arm-linux-gnueabihf libc6-dev-armhf-cross gcc-riscv64-linux-gnu libc6-dev-riscv64-cross qemu-user)
+if [ "$(uname -m)" = x86_64 ]; then
+    for_others+=(gcc-aarch64-linux-gnu libc6-dev-arm64-cross)
+else
+    for_others+=(gcc-x86-64-linux-gnu libc6-dev-amd64-cross)
+fi
+for_board=(gcc-arm-none-eabi libnewlib-arm-none-eabi qemu-system-arm)
 
 # has PACKAGE: whether what is used here of that Debian package is there.
 has() {
     case $1 in
     chromium | clang | debootstrap | gcc | g++ | openssl | pcscd | python3 | valgrind) command -v "$1" ;;
+    binutils-aarch64-linux-gnu | binutils-arm-none-eabi) command -v "${1#binutils-}-objdump" ;;
     gcc-x86-64-linux-gnu | g++-x86-64-linux-gnu) command -v "x86_64-linux-gnu-${1%%-*}" ;;
+    gcc-aarch64-linux-gnu | gcc-arm-linux-gnueabihf | gcc-riscv64-linux-gnu | gcc-arm-none-eabi) command -v "${1#gcc-}-gcc" ;;
     libc6-dev) gcc -E -include stdio.h -x c /dev/null ;;
-    libclang-rt-dev) test -e "$(clang -print-runtime-dir)/libclang_rt.fuzzer-x86_64.a" ;;
+    libclang-rt-dev) test -e "$(clang -print-runtime-dir)/libclang_rt.fuzzer-$(uname -m).a" ;;
     libc6-dev-amd64-cross) x86_64-linux-gnu-gcc -E -include stdio.h -x c /dev/null ;;
+    libc6-dev-arm64-cross) aarch64-linux-gnu-gcc -E -include stdio.h -x c /dev/null ;;
+    libc6-dev-armhf-cross) arm-linux-gnueabihf-gcc -E -include stdio.h -x c /dev/null ;;
+    libc6-dev-riscv64-cross) riscv64-linux-gnu-gcc -E -include stdio.h -x c /dev/null ;;
+    libnewlib-arm-none-eabi) arm-none-eabi-gcc --specs=rdimon.specs -E -include stdio.h -x c /dev/null ;;
     libbearssl-dev) gcc -E -include bearssl.h -x c /dev/null ;;
     libssl-dev) gcc -E -include openssl/evp.h -x c /dev/null ;;
     opensc) command -v opensc-tool ;;
     pcsc-tools) command -v scriptor && command -v ATR_analysis ;;
+    qemu-system-arm) command -v qemu-system-arm ;;
+    qemu-user) command -v qemu-arm ;;
     qemu-user-static) command -v qemu-aarch64-static ;;
     vsmartcard-vpcd) test -e /usr/lib/pcsc/drivers/serial/libifdvpcd.so ;;
     *) return 1 ;;
@@ -177,17 +200,43 @@ library_is_old() { is_old $library limpetnook; }
 
 # build_library: the prover makes it, which takes a while, so only where that is needed.
 build_library() {
-    if library_is_old; then
-        rt staticlib limpetnook
+    library_is_old || return 0
+    library_is_proved || prove_library || return
+    if [ $native = x86_64-linux ]; then
+        cp $modules/limpetnook.a $library
+    else
+        write_library $native && touch $library
     fi
 }
 
-# sections FILE: the bytes of its code and of its constants, without tables for unwinding the stack.
+# sections FILE: the bytes of its code and of its constants, without tables for unwinding the stack. The file may be for any processor.
 sections() {
-    x86_64-linux-gnu-size -A "$1" | awk '
-        $1 ~ /^\.text/ { code += $2 }
-        $1 ~ /^\.(rodata|data)/ { constants += $2 }
-        END { print code + 0, constants + 0 }'
+    LC_ALL=C readelf -SW "$1" | sed -n 's/^ *\[ *[0-9]*\] \(\.[^ ]*\) .* [0-9a-f]\{6,\} \([0-9a-f]\{6,\}\) [0-9a-f][0-9a-f] .*/\1 \2/p' | {
+        code=0 constants=0
+        while read -r name size; do
+            case $name in
+            .text*) code=$((code + 16#$size)) ;;
+            .rodata* | .srodata* | .data* | .sdata*) constants=$((constants + 16#$size)) ;;
+            esac
+        done
+        echo $code $constants
+    }
+}
+
+# promised CALL: the name under which the header says how much stack a call takes, and the number; on x86-64, or with `other` elsewhere.
+promised() {
+    local name=LIMPET_CARD_STACK
+    case $1 in
+    *aes128) name=LIMPET_AES128_STACK ;;
+    *code) name=LIMPET_CODE_STACK ;;
+    *text*) name=LIMPET_TEXT_STACK ;;
+    esac
+    echo $name "$(sed -n "s/^#define $name \([0-9]*\).*/\1/p" include/limpetnook.h | if [ "${2-}" = other ]; then tail -n 1; else head -n 1; fi)"
+}
+
+# needed_by FILE: the functions that it needs of others.
+needed_by() {
+    LC_ALL=C readelf -sW "$1" | awk '$7 == "UND" && $8 != "" { print $8 }' | sort -u
 }
 
 # take FUNCTION OBJECT: has OBJECT be what a program takes of $library that calls that function alone and is linked with --gc-sections.
@@ -284,7 +333,7 @@ build_program() {
     cuts) sources=(tests/c/{cuts,stores,play,groups,cards}.c "${watched[@]}" reader/lines.c) ;;
     recovers) sources=(tests/c/{recovers,stores,groups,cards}.c "${watched[@]}") ;;
     outsider) sources=(tests/c/{outsider,asked,play,groups,cards}.c "${watched[@]}" reader/lines.c) ;;
-    stack) sources=(tests/c/{stack,play}.c reader/lines.c) ;;
+    stack) sources=(tests/c/{stack,taken,play}.c reader/lines.c) ;;
     verifies) sources=(tests/c/{verifies,coded,aes_bytes}.c) ;;
     blocks | compare) sources=("tests/c/${name%%-*}.c") ;;
     calls) sources=(bench/{calls,measure}.c tests/c/play.c reader/lines.c) ;;
@@ -368,6 +417,60 @@ try() {
         failed=$((failed + 1))
         echo "FAILED: $name"
     fi
+}
+
+# quietly COMMAND...: shows what the command prints only where it fails. A script has a folder $work for this and for what follows.
+quietly() {
+    "$@" >"$work/log" 2>&1 || { cat "$work/log" && return 1; }
+}
+
+# agrees SCRIPT COMMAND...: the command prints on that script what the script program prints, and finds nothing wrong by itself.
+agrees() {
+    local script=$1
+    shift
+    x86 target/bin/script <"$script" >"$work/by-value" &&
+        "$@" <"$script" >"$work/in-place" &&
+        cmp "$work/by-value" "$work/in-place"
+}
+
+# beside PROGRAM COMMAND...: the command asks that program on file descriptor 3, and has its answers as standard input.
+beside() {
+    local program=$1
+    shift
+    [ -p "$work/asked" ] || mkfifo "$work/asked"
+    "$program" <"$work/asked" | "$@" 3>"$work/asked"
+}
+
+# counted NAME COMMAND...: the cases of a program whose last line counts them are tests of the script. Where it breaks off before it has
+# counted them, that is one that failed.
+counted() {
+    local output status=0 name=$1
+    shift
+    output=$("$@") || status=$?
+    if [[ ${output##*$'\n'} =~ ^([0-9]+)" passed, "([0-9]+)" failed"$ ]] && ((status == (BASH_REMATCH[2] > 0))); then
+        passed=$((passed + BASH_REMATCH[1]))
+        failed=$((failed + BASH_REMATCH[2]))
+        printf '%s\n' "${output%$'\n'*}"
+    else
+        failed=$((failed + 1))
+        printf '%s\nFAILED: %s broke off with exit status %d\n' "$output" "$name" "$status"
+    fi
+}
+
+# enough NAME PATTERN COUNT: the line of the counts that begins so tells of at least COUNT texts. Of many texts at least five in a hundred
+# are what the pattern names, so that a library that refuses nearly all would not do.
+enough() {
+    local texts met
+    read -r texts met < <(sed -nE "s/^$1: ([0-9]+)( texts)?,(.*) ([0-9]+) $2[,;].*/\\1 \\4/p" "$work/counts") || return
+    ((texts >= $3 && (texts < 1000 || met * 20 >= texts)))
+}
+
+# texts_agree SEED COUNT CONVERTED COMMAND...: the command, tests/c/texts.c as it is built, finds that the library agrees with the model on
+# the cases of that seed, which are as many as asked for.
+texts_agree() {
+    python3 tests/model/text_cases.py "${@:1:3}" | "${@:4}" | tee "$work/counts" || return
+    enough "all texts" accepted "$2" && enough "to new" converted "$3" && enough "to old" converted "$3" &&
+        enough "to old" "with a directory" "$3"
 }
 
 # left_out NAME: says so of a test that needs what watches a program at work.
