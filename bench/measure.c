@@ -6,12 +6,22 @@
 #include <string.h>
 #include <time.h>
 
-double now(void)
+static double seconds_of(clockid_t clock)
 {
     struct timespec t;
 
-    clock_gettime(CLOCK_MONOTONIC, &t);
+    clock_gettime(clock, &t);
     return (double)t.tv_sec + 1e-9 * (double)t.tv_nsec;
+}
+
+double now(void)
+{
+    return seconds_of(CLOCK_MONOTONIC);
+}
+
+double processor_time(void)
+{
+    return seconds_of(CLOCK_PROCESS_CPUTIME_ID);
 }
 
 int read_rounds(int count, char **arguments, const char *usage)

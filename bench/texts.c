@@ -269,10 +269,10 @@ static void measure(const char *what, const struct kept *k, call *once, int roun
 
     for (int round = 0; round < rounds; round++)
         for (int way = 0; way < WAYS; way++) {
-            double start = now();
+            double start = processor_time();
             for (int i = 0; i < CALLS; i++)
                 once(k, way);
-            double took = (now() - start) / CALLS;
+            double took = (processor_time() - start) / CALLS;
             if (round == 0 || took < best[way])
                 best[way] = took;
         }

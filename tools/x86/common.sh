@@ -3,6 +3,7 @@
 built=target/c
 reader=target/reader/limpet-reader
 card_program=target/reader/limpet-card
+plain_card=bench/plain_card.c # takes the library's place where a program is built with library=$plain_card
 strict=(-Wall -Wextra -pedantic -Werror -Iinclude)
 # For programs that hold keys and PINs: an overrun buffer ends them, and nothing that they call through can be written.
 hardened=(-O2 -fstack-protector-strong -U_FORTIFY_SOURCE -D_FORTIFY_SOURCE=2 "-Wl,-z,relro,-z,now")
@@ -28,6 +29,10 @@ else
         built=target/for-x86 reader=target/for-x86/limpet-reader card_program=target/for-x86/limpet-card
     fi
 fi
+
+# How a program is built that watches itself. Where x86-64 is emulated there is no address sanitizer for it.
+sanitizers=(-O1 -g -fsanitize=undefined -fno-sanitize-recover=all)
+[ $emulated = yes ] || sanitizers+=(-fsanitize=address)
 
 # The Debian packages for the other processors: compilers and emulators for Linux, and those for a board without an operating system.
 for_others=(gcc-arm-linux-gnueabihf libc6-dev-armhf-cross gcc-riscv64-linux-gnu libc6-dev-riscv64-cross qemu-user)
@@ -318,6 +323,12 @@ build_card() {
     fi
 }
 
+# stacks PROGRAM: of each kind of call the most bytes of stack that it took over all scripts of tests/scripts and a random one of 20,000
+# lines, by a build of tests/c/stack.c. To be built with `to_count`: a function of C that is looked up in a call takes more than the call.
+stacks() {
+    { cat tests/scripts/*.script && python3 tests/model/generate.py 1 20000; } | x86 "$built/$1"
+}
+
 # build_program NAME FLAG...: builds $built/NAME, one of the programs in C of tests/c and bench, over $library. What follows a hyphen in
 # the name tells builds of one program apart; NAME-faulty has tests/c/faults.c in between, NAME-leaky has tests/c/leaks.c, and NAME-plain
 # has tests/c/plain_stores.c in the place of the two calls of R-10.
@@ -338,6 +349,7 @@ build_program() {
     blocks | compare) sources=("tests/c/${name%%-*}.c") ;;
     calls) sources=(bench/{calls,measure}.c tests/c/play.c reader/lines.c) ;;
     notes) sources=(bench/{notes,measure}.c tests/c/{coded,aes_bytes}.c) ;;
+    plain_script) sources=(bench/plain_script.c) ;;
     timed_texts) sources=(bench/{texts,plain_text,measure}.c tests/c/cards.c "${watched[@]}") ;;
     fuzz_texts) sources=(tests/c/{fuzz_texts,cards}.c "${watched[@]}" bench/{plain_text,measure}.c) ;;
     *) echo "there is no program $name" >&2 && return 1 ;;

@@ -27,7 +27,7 @@ use Rattle.rules.specs.Code.{codeSw, presentsCode, credentialsAfter}
 use Rattle.rules.specs.Step.{checks, effectOf, kept, outcome, settled, atOnce, fetched, step}
 use Rattle.rules.specs.Calls.{command, reset, goodOrder, issue}
 use Rattle.digits.specs.Digits.{digitsIn, decimal, hexDigit, hexOf, orDash, value}
-use Rattle.lines.specs.Grammar.{tabAt, tabs, before, after, isHex, bytesOf, numberFrom, isLimit, isIssue, orderIn, isCommand, isReset}
+use Rattle.lines.specs.Grammar.{firstAt, tabs, before, after, isHex, bytesOf, numberFrom, isLimit, isIssue, orderIn, isCommand, isReset}
 use Rattle.lines.specs.Text.{printed}
 use Rattle.lines.specs.Script.{onCard, handled, answer}
 use Rattle.line_examples.specs.Table.{Row, allHold}
@@ -38,7 +38,7 @@ use Rattle.line_examples.specs.Rows.{table, EachHolds}
 
 -- whether rows hold, by computation: to unfold this is to unfold every definition that a row may need
 computed : List Row → Bool
-unfolding codeSw presentsCode credentialsAfter allBelow part splice over count recordLength size goodShape allHeld anyHeld allowed goodRights goodFileRights used startAt extent isPlace inArea seek findFid findSfi findFolder back next bytesUsed placesHeld placeOf recordsHeld startOf lengthOf located locatedIn nextPlace nextStart entry appended soundHeld soundUsed partedFile isRecord hasRoom stands past walk parted standing goodContents apart nameUnused room created goodFolder fidUnused founded soundFile unusedPlace sfisDiffer unusedFolder soundFolder soundFolders soundDirectory partedArea orElse allOf same goodPin goodValue soundValue soundTries soundCredential soundChallenge soundResponse soundJournal soundCurrent soundState sound caseOf framed rows find listed rule selectChecks target readCount readBinaryChecks updateBinaryChecks recordFound readRecordChecks updateRecordChecks appendChecks comparedAt verifyChecks changeChecks reloadChecks authenticateChecks getChallengeChecks fileGiven folderGiven goodFolderGiven creationRight createChecks waitSw getResponseChecks fetches checks effectOf kept outcome settled atOnce fetched step command reset goodOrder issue digitsIn decimal hexDigit hexOf orDash value tabAt tabs before after isHex bytesOf numberFrom isLimit isIssue orderIn isCommand isReset printed onCard handled answer
+unfolding codeSw presentsCode credentialsAfter allBelow part splice over count recordLength size goodShape allHeld anyHeld allowed goodRights goodFileRights used startAt extent isPlace inArea seek findFid findSfi findFolder back next bytesUsed placesHeld placeOf recordsHeld startOf lengthOf located locatedIn nextPlace nextStart entry appended soundHeld soundUsed partedFile isRecord hasRoom stands past walk parted standing goodContents apart nameUnused room created goodFolder fidUnused founded soundFile unusedPlace sfisDiffer unusedFolder soundFolder soundFolders soundDirectory partedArea orElse allOf same goodPin goodValue soundValue soundTries soundCredential soundChallenge soundResponse soundJournal soundCurrent soundState sound caseOf framed rows find listed rule selectChecks target readCount readBinaryChecks updateBinaryChecks recordFound readRecordChecks updateRecordChecks appendChecks comparedAt verifyChecks changeChecks reloadChecks authenticateChecks getChallengeChecks fileGiven folderGiven goodFolderGiven creationRight createChecks waitSw getResponseChecks fetches checks effectOf kept outcome settled atOnce fetched step command reset goodOrder issue digitsIn decimal hexDigit hexOf orDash value firstAt tabs before after isHex bytesOf numberFrom isLimit isIssue orderIn isCommand isReset printed onCard handled answer
 computed = allHold
 
 pub issue-fields-hold : allHold issue-fields ≡ true

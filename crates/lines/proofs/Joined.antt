@@ -11,21 +11,21 @@ use lib.Dec.{eqb}
 use lib.ListN.{length, take, drop, getD}
 use borrow.Author.Tests.{eqb-true, eq-eqb, ne-eqb}
 use Rattle.digits.specs.Digits.{tab}
-use Rattle.lines.specs.Grammar.{tabAt, tabs, before, after, field}
+use Rattle.lines.specs.Grammar.{firstAt, tabAt, tabs, before, after, field}
 use Rattle.lines.specs.Says.{joined, TabFree}
 
 -- a text without a tab
 abbrev pub Plain : List ℕ → Type 0
 Plain w = tabs w ≡ 0
 
-tab-or-not : (b : ℕ) {A : Type 0} → (b ≡ tab → A) → (eqb b tab ≡ false → A) → A
+pub tab-or-not : (b : ℕ) {A : Type 0} → (b ≡ tab → A) → (eqb b tab ≡ false → A) → A
 tab-or-not b {A} f g = go (eqb b tab) refl
   where
     go : (t : Bool) → eqb b tab ≡ t → A
     go true e = f (eqb-true b tab e)
     go false e = g e
 
-head-plain : (b : ℕ) (w : List ℕ) → Plain (b ∷ w) → (eqb b tab ≡ false) × Plain w
+pub head-plain : (b : ℕ) (w : List ℕ) → Plain (b ∷ w) → (eqb b tab ≡ false) × Plain w
 unfolding tabs
 head-plain b w h =
     tab-or-not b
@@ -59,7 +59,7 @@ high-plain b w h k = plain-cons b w (ne-eqb b tab (λ z. omega (arith, z))) k
 -- the first field and the rest
 module _ (r : List ℕ) where
   at-first : (f : List ℕ) → Plain f → tabAt (f ++ (tab ∷ r)) ≡ length f
-  unfolding tabAt
+  unfolding firstAt
   at-first [] h = refl
   at-first (b ∷ f) h = let k = head-plain b f h in rw (k .0) (ap suc (at-first f (k .1)))
 
@@ -86,7 +86,7 @@ module _ (r : List ℕ) where
 
 -- a line of one field
 pub before-all : (f : List ℕ) → Plain f → before f ≡ f
-unfolding before tabAt
+unfolding before firstAt
 before-all [] h = refl
 before-all (b ∷ f) h = let k = head-plain b f h in rw (k .0) (ap (λ (l : List ℕ). b ∷ l) (before-all f (k .1)))
 
@@ -118,23 +118,23 @@ fieldsOf (suc n) s = before s ∷ fieldsOf n (after s)
 
 module _ (b : ℕ) (s : List ℕ) (e : eqb b tab ≡ false) where
   before-on : before (b ∷ s) ≡ b ∷ before s
-  unfolding before tabAt
+  unfolding before firstAt
   before-on = rw e
 
   after-on : after (b ∷ s) ≡ after s
-  unfolding after tabAt
+  unfolding after firstAt
   after-on = rw (e, add-one (tabAt s), add-one (suc (tabAt s)))
 
 before-none : (b : ℕ) (s : List ℕ) → b ≡ tab → before (b ∷ s) ≡ []
-unfolding before tabAt
+unfolding before firstAt
 before-none b s e = rw (eq-eqb b tab e)
 
 after-none : (b : ℕ) (s : List ℕ) → b ≡ tab → after (b ∷ s) ≡ s
-unfolding after tabAt
+unfolding after firstAt
 after-none b s e = rw (eq-eqb b tab e)
 
 pub before-plain : (s : List ℕ) → Plain (before s)
-unfolding before tabAt tabs
+unfolding before firstAt tabs
 before-plain [] = refl
 before-plain (b ∷ s) =
     tab-or-not b
@@ -146,7 +146,7 @@ field-plain zero s = before-plain s
 field-plain (suc n) s = field-plain n (after s)
 
 -- behind the first tab there is one less
-parted : (s : List ℕ) (n : ℕ) → tabs s ≡ suc n → (before s ++ (tab ∷ after s) ≡ s) × (tabs (after s) ≡ n)
+pub parted : (s : List ℕ) (n : ℕ) → tabs s ≡ suc n → (before s ++ (tab ∷ after s) ≡ s) × (tabs (after s) ≡ n)
 unfolding tabs
 parted [] n h = absurd (omega arith)
 parted (b ∷ s) n h =

@@ -14,7 +14,7 @@ use Rattle.rules.specs.State.{device, admin, user, transport}
 use Rattle.rules.specs.Calls.{Order}
 use Rattle.rules.proofs.Equal.{same-equal, equal-same}
 use Rattle.digits.specs.Digits.{decimal, hexOf}
-use Rattle.lines.specs.Grammar.{tabAt, tabs, before, field, record-of, isHex, bytesOf, numberOf, isLimit, issueWord, commandWord, resetWord, isIssue, orderIn, isCommand, commandIn, randomIn, isReset}
+use Rattle.lines.specs.Grammar.{firstAt, tabs, before, field, record-of, isHex, bytesOf, numberOf, isLimit, issueWord, commandWord, resetWord, isIssue, orderIn, isCommand, commandIn, randomIn, isReset}
 use Rattle.lines.specs.Says.{joined, Issue, issues, commands, resets, spelled, Few, GoodIssue, IsLine, orderFor, ReadAs, SpelledRead, ReadSpelled, OneMeaning}
 use Rattle.lines.proofs.Joined.{plain-from, plain-free, AllPlain, tabs-joined, first-joined, field-joined, field-plain, joined-again, before-all}
 use Rattle.lines.proofs.Numbers.{hex-plain, hex-is, bytes-back, decimal-plain, limit-is, number-back, hex-read, limit-read}
@@ -152,7 +152,7 @@ module _ (cmd random : List ℕ) (f : Few cmd) (g : Few random) where
   command-random = ap bytesOf (nth commandWord (commandFields cmd random) command-plain 2 (omega arith)) ∙ bytes-back random (g .each-byte)
 
 reset-read : ReadAs resets resetWord
-unfolding isIssue isCommand isReset tabs before tabAt same
+unfolding isIssue isCommand isReset tabs before firstAt same
 reset-read = (refl, refl, refl)
 
 pub spelled-read : SpelledRead
