@@ -3,10 +3,8 @@
  * cards of mode 1, with codes and on others: one command, again and again on the
  * same card.
  *
- * It links with the library of an earlier version too, which may have no type
- * 2C, no mode and no codes: a card is taken to be as large as the library says, no
- * card is reset, and cards that cannot be made are left out. An issue without a
- * mode or a transport key does not see the last arguments. Codes are worked out by
+ * An earlier library may have no type 2C, no mode and no codes: no card is reset,
+ * and cards that cannot be made are left out. Codes are worked out by
  * tests/c/coded.c, since such a library has no call for them.
  */
 #include <stdbool.h>
@@ -16,16 +14,14 @@
 
 #include "coded.h"
 #include "fips.h"
+#include "given.h"
 #include "limpetnook.h"
 #include "measure.h"
 
-enum { CARD_ROOM = 1024, LONGEST_COMMAND = 300, CALLS = 2000, MOST_RECORDS = LIMPET_AREA_SIZE / 2, AREAS = 64 };
+enum { CALLS = 2000, MOST_RECORDS = LIMPET_AREA_SIZE / 2, AREAS = 64 };
 
-static uint8_t card[CARD_ROOM], kept[CARD_ROOM];
+static uint8_t kept[CARD_ROOM];
 static uint8_t areas[AREAS][LIMPET_AREA_SIZE];
-static uint8_t *area = areas[0]; /* the one that is lent */
-static uint8_t reply[LIMPET_REPLY_SIZE];
-static size_t reply_count;
 static bool is_once;
 
 static const char usage[] =
@@ -37,40 +33,6 @@ static const char usage[] =
     "--once: prints a line for each call of limpet_command, whose instructions are to be\n"
     "counted; the calls that make a card have the line \"making\". --some: on cards without\n"
     "notes alone, which are made by few calls.\n";
-
-struct bytes {
-    uint8_t at[LONGEST_COMMAND];
-    size_t length;
-};
-
-/* Hex digits, blanks between them, and behind them so many bytes of 2A. */
-static struct bytes read_command(const char *digits, size_t more)
-{
-    struct bytes b = { .length = 0 };
-    unsigned byte;
-    int read;
-
-    for (; sscanf(digits, " %2x%n", &byte, &read) == 1; digits += read)
-        b.at[b.length++] = (uint8_t)byte;
-    memset(b.at + b.length, 0x2A, more);
-    b.length += more;
-    return b;
-}
-
-/* The status word, or 0 where the call was not served. */
-static unsigned give(const struct bytes *command)
-{
-    uint8_t outcome = limpet_command((struct limpet_card *)card, area, LIMPET_AREA_SIZE, command->at, command->length,
-                                     c1_block, sizeof c1_block, reply, sizeof reply, &reply_count);
-
-    return outcome == LIMPET_OK ? 256u * reply[reply_count - 2] + reply[reply_count - 1] : 0;
-}
-
-static void stop(const char *what, unsigned word, unsigned due)
-{
-    fprintf(stderr, "notes: %s: status word %04X, and %04X is due\n", what, word, due);
-    exit(EXIT_FAILURE);
-}
 
 static unsigned made(const char *digits, size_t more)
 {
@@ -88,17 +50,6 @@ static void make(const char *digits, size_t more)
 
     if (word != 0x9000 && word >> 8 != 0x61)
         stop(digits, word, 0x9000);
-}
-
-static void issue_in(uint16_t mode)
-{
-    static const uint8_t pin[] = { '1', '2', '3', '4', '5', '6' };
-
-    if (limpet_issue((struct limpet_card *)card, area, LIMPET_AREA_SIZE, c1_key, sizeof c1_key, 128,
-                     pin, sizeof pin, 5, pin, sizeof pin, 3, mode, c1_cryptogram, sizeof c1_cryptogram, 10) != LIMPET_OK) {
-        fprintf(stderr, "notes: a good order is refused\n");
-        exit(EXIT_FAILURE);
-    }
 }
 
 static void issue(void)
@@ -342,10 +293,8 @@ int main(int count, char **arguments)
     bool is_some = count == 3 && strcmp(arguments[2], "--some") == 0;
     is_once = (count == 2 || is_some) && strcmp(arguments[1], "--once") == 0;
     int rounds = is_once ? 1 : read_rounds(count, arguments, usage);
-    if (limpet_card_size() > CARD_ROOM) {
-        fprintf(stderr, "notes: a card takes more than %d bytes\n", CARD_ROOM);
-        return EXIT_FAILURE;
-    }
+    ask_card_room();
+    area = areas[0];
     without_files(rounds);
     with_sixteen(rounds);
     with_binary(rounds);

@@ -348,7 +348,8 @@ build_program() {
     verifies) sources=(tests/c/{verifies,coded,aes_bytes}.c) ;;
     blocks | compare) sources=("tests/c/${name%%-*}.c") ;;
     calls) sources=(bench/{calls,measure}.c tests/c/play.c reader/lines.c) ;;
-    notes) sources=(bench/{notes,measure}.c tests/c/{coded,aes_bytes}.c) ;;
+    notes) sources=(bench/{notes,given,measure}.c tests/c/{coded,aes_bytes}.c) ;;
+    kinds) sources=(bench/{kinds,given}.c) ;;
     plain_script) sources=(bench/plain_script.c) ;;
     timed_texts) sources=(bench/{texts,plain_text,measure}.c tests/c/cards.c "${watched[@]}") ;;
     fuzz_texts) sources=(tests/c/{fuzz_texts,cards}.c "${watched[@]}" bench/{plain_text,measure}.c) ;;
