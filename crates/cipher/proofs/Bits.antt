@@ -5,7 +5,7 @@ use Prim.Native.Nat.{ℕ, zero, suc, _+_, _*_, _/_, _%_, _^_, _<_}
 use native.Mathlib.Nat.{mod-lt, zero-lt-suc, add-zero}
 use native.Mathlib.Omega.{arith}
 use lib.Arith.{bin-ind}
-use lib.Bits.{bitXor, bitAnd, xor-shr, xor-mod, and-shr, and-mod, and-block, xor-block, and-zero-r, xor-comm, xor-self}
+use lib.Bits.{bitXor, bitAnd, xor-shr, xor-mod, and-shr, and-mod, and-block, xor-block, and-zero-r, xor-zero-r, xor-comm, xor-self}
 use lib.Pow.{pow-pos, split, shl-shr}
 
 record Bitwise (f : ℕ → ℕ → ℕ → ℕ) : Type 0 where
@@ -73,6 +73,9 @@ and-both = same (anded (anded one two) three) (anded (anded one three) (anded tw
 pub xor-back : (a b : ℕ) → bitXor a (bitXor a b) ≡ b
 xor-back a b = sym (xor-assoc a a b) ∙ ap (λ (x : ℕ). bitXor x b) (xor-self a)
 
+pub xor-away : (a b : ℕ) → bitXor (bitXor a b) b ≡ a
+xor-away a b = xor-assoc a b b ∙ ap (bitXor a) (xor-self b) ∙ xor-zero-r a
+
 -- a sum of four, from the second on
 pub from-second : (x y z w : ℕ) → bitXor (bitXor (bitXor x y) z) w ≡ bitXor (bitXor (bitXor y z) w) x
 from-second x y z w = ap (λ (u : ℕ). bitXor u w) (xor-assoc x y z) ∙ xor-assoc x (bitXor y z) w ∙ xor-comm x (bitXor (bitXor y z) w)
@@ -84,9 +87,10 @@ crosswise p q r s =
     ∙ ap (bitXor p) (sym (xor-assoc q r s) ∙ ap (λ (x : ℕ). bitXor x s) (xor-comm q r) ∙ xor-assoc r q s)
     ∙ sym (xor-assoc p r (bitXor q s))
 
-pub double : (x y : ℕ) → bitXor x y * 2 ≡ bitXor (x * 2) (y * 2)
-double x y =
-    sym (ap₂ bitXor (sym (add-zero (x * 2))) (sym (add-zero (y * 2))) ∙ xor-block 1 x y 0 0 (pow-pos 1) (pow-pos 1) ∙ add-zero (bitXor x y * 2))
+pub xor-shl : (x y k : ℕ) → bitXor x y * 2 ^ k ≡ bitXor (x * 2 ^ k) (y * 2 ^ k)
+xor-shl x y k =
+    sym
+    (ap₂ bitXor (sym (add-zero (x * 2 ^ k))) (sym (add-zero (y * 2 ^ k))) ∙ xor-block k x y 0 0 (pow-pos k) (pow-pos k) ∙ add-zero (bitXor x y * 2 ^ k))
 
 -- ---- masks moved up
 -- the bits of z under a mask that is c places up

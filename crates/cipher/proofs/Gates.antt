@@ -1,8 +1,8 @@
 -- The circuit of specs/Circuit as one, over words: a gate works on every bit by itself, so all bytes of a word are substituted at once, and
--- those of two words. `Lanes` shows that each byte is the standard's, `Pairs` that two words do not mix. Assumes nothing.
+-- those of three words. `Lanes` shows that each byte is the standard's, `Triples` that three words do not mix. Assumes nothing.
 use mathlib.Core.Path.{_≡_, refl, ap, ap₂, sym, _∙_}
 use mathlib.Core.List.{List, [], _∷_, _++_, map, map-append}
-use Prim.Native.Nat.{ℕ, _*_, _/_, _%_, _^_}
+use Prim.Native.Nat.{ℕ, _/_}
 use lib.Bits.{bitXor, bitAnd}
 use lib.ListN.{getD, List·getD-map}
 use Rattle.cipher.specs.Circuit.{Gate, xor, and, value, run, picked, Part, through, summing, norming, inverting, multiplying, gathering}
@@ -52,48 +52,7 @@ bitsOf w = w ∷ w / 2 ∷ w / 4 ∷ w / 8 ∷ w / 16 ∷ w / 32 ∷ w / 64 ∷ 
 
 -- what the circuit's bits weigh
 abbrev pub weights : List ℕ
-weights = 1 ∷ 4 ∷ 16 ∷ 64 ∷ 2 ∷ 8 ∷ 32 ∷ 128 ∷ []
-
--- ---- two words at once: a byte of a name has a bit of the first word's byte at bit 0, and above it the bit of the second's
--- masks of one byte, eight times: 55, AA and 03
-abbrev pub fives : ℕ
-fives = 0x5555555555555555
-
-abbrev pub tens : ℕ
-tens = 0xaaaaaaaaaaaaaaaa
-
-abbrev pub threes : ℕ
-threes = 0x0303030303030303
-
--- the bits 0, 2, 4 and 6 of each byte of a and b, and the bits 1, 3, 5 and 7
-abbrev pub evens : ℕ → ℕ → ℕ
-evens a b = bitXor (bitAnd a fives) (bitAnd b fives * 2 % 2 ^ 64)
-
-abbrev pub odds : ℕ → ℕ → ℕ
-odds a b = bitXor (bitAnd (a / 2) fives) (bitAnd b tens)
-
-abbrev pub spread : ℕ → ℕ → List ℕ
-spread e o = e ∷ o ∷ e / 4 ∷ o / 4 ∷ e / 16 ∷ o / 16 ∷ e / 64 ∷ o / 64 ∷ []
-
-abbrev pub bitsOfBoth : ℕ → ℕ → List ℕ
-bitsOfBoth a b = spread (evens a b) (odds a b)
-
-abbrev pub quad : ℕ → ℕ → ℕ → ℕ → ℕ
-quad p q r s =
-    bitXor (bitXor (bitXor (bitAnd p threes) (bitAnd q threes * 4 % 2 ^ 64)) (bitAnd r threes * 16 % 2 ^ 64)) (bitAnd s threes * 64 % 2 ^ 64)
-
-abbrev pub evenOuts : List ℕ → ℕ
-evenOuts l = quad (getD l 0 0) (getD l 1 0) (getD l 2 0) (getD l 3 0)
-
-abbrev pub oddOuts : List ℕ → ℕ
-oddOuts l = quad (getD l 4 0) (getD l 5 0) (getD l 6 0) (getD l 7 0)
-
--- the words that the circuit's bits make
-abbrev pub firstOut : List ℕ → ℕ
-firstOut l = bitXor (bitXor 0x6363636363636363 (bitAnd (evenOuts l) fives)) (bitAnd (oddOuts l) fives * 2 % 2 ^ 64)
-
-abbrev pub secondOut : List ℕ → ℕ
-secondOut l = bitXor (bitXor 0x6363636363636363 (bitAnd (evenOuts l / 2) fives)) (bitAnd (oddOuts l) tens)
+weights = 1 ∷ 16 ∷ 2 ∷ 32 ∷ 4 ∷ 64 ∷ 8 ∷ 128 ∷ []
 
 -- ---- the parts, one after the other
 pub joined : (x : List ℕ) {y n v z s : List ℕ} → y ≡ through summing x → n ≡ through norming y → v ≡ through inverting n → z ≡ through multiplying (v ++ y)

@@ -18,7 +18,7 @@ use Rattle.cipher.specs.ShiftRows.{shiftRows}
 use Rattle.cipher.specs.AddRoundKey.{addRoundKey}
 use Rattle.cipher.specs.KeyExpansion.{xorWord, subWord, rotWord}
 use Rattle.cipher.specs.Cipher.{fullRound, lastRound}
-use Rattle.cipher.specs.Words.{columns, bytes, state, turn24, highBits, highHalves, merge, mixWord, keyCore, NextKey, roundColumn, OnHalves}
+use Rattle.cipher.specs.Words.{columns, bytes, state, turn24, highBits, highHalves, merge, mixWord, keyCore, NextKey, mixUnless, OnHalves}
 use Rattle.cipher.proofs.Bits.{xor-back}
 use Rattle.cipher.proofs.Substitution.{low}
 use Rattle.cipher.proofs.Bytes.{four, sum, bytes-turn24, high-bits, high-fits, low-fits, doubled-bytes, mixed-bytes}
@@ -113,25 +113,39 @@ added-blocks s k =
     join (xor-halves (s .lo) (k .lo) .first) (xor-halves (s .lo) (k .lo) .second) (xor-halves (s .hi) (k .hi) .first) (xor-halves (s .hi) (k .hi) .second)
 
 -- ---- a round
-pub more-column : (w t r : ℕ) {rc : ℕ} → (rc ≡ 0x36 → ⊥) → OnHalves subWord w t → OnHalves mixWord t r → OnHalves (roundColumn (eqb rc 0x36)) w r
-more-column w t r n p q = rw (ne-eqb _ _ n) (record { first = q .first ∙ ap mixWord (p .first); second = q .second ∙ ap mixWord (p .second) })
+-- the words w and v after MixColumns, in all rounds but the last
+pub more-mixed : (w v : ℕ) {n x y : ℕ} → (n ≡ 9 → ⊥) → OnHalves mixWord w x → OnHalves mixWord v y
+    → OnHalves (mixUnless (eqb n 9)) w x × OnHalves (mixUnless (eqb n 9)) v y
+more-mixed w v e p q = rw (ne-eqb _ _ e) (record { first = p .first; second = p .second }, record { first = q .first; second = q .second })
 
-pub last-column : (w t : ℕ) {rc : ℕ} → rc ≡ 0x36 → OnHalves subWord w t → OnHalves (roundColumn (eqb rc 0x36)) w t
-last-column w t e p = rw (eq-eqb _ _ e) (record { first = p .first; second = p .second })
+pub last-mixed : (w v : ℕ) {n : ℕ} → n ≡ 9 → OnHalves (mixUnless (eqb n 9)) w w × OnHalves (mixUnless (eqb n 9)) v v
+last-mixed w v e = rw (eq-eqb _ _ e) (record { first = refl; second = refl }, record { first = refl; second = refl })
+
+-- a round's work on a column after ShiftRows
+abbrev roundColumn : Bool → List ℕ → List ℕ
+roundColumn last w = mixUnless last (subWord w)
+
+round-column : (last : Bool) {w t r : ℕ} → OnHalves subWord w t → OnHalves (mixUnless last) t r → OnHalves (roundColumn last) w r
+round-column last p q = record { first = q .first ∙ ap (mixUnless last) (p .first); second = q .second ∙ ap (mixUnless last) (p .second) }
 
 -- the four columns of a state, each by itself
 abbrev eachColumn : Bool → List ℕ → List ℕ
 eachColumn last l =
     roundColumn last (take 4 l) ++ (roundColumn last (take 4 (drop 4 l)) ++ (roundColumn last (take 4 (drop 8 l)) ++ roundColumn last (take 4 (drop 12 l))))
 
-pub whole-round : (last : Bool) (s k t m r : Block) → state (columns t) ≡ shiftRows (state (columns s))
-    → OnHalves (roundColumn last) (t .lo) (m .lo) → OnHalves (roundColumn last) (t .hi) (m .hi)
-    → state (columns r) ≡ addRoundKey (state (columns m)) (state (columns k)) → state (columns r) ≡ anyRound last (state (columns s)) (state (columns k))
+column-by-column : (last : Bool) (s : Block) (k : List ℕ) → addRoundKey (eachColumn last (shiftRows (state (columns s)))) k ≡ anyRound last (state (columns s)) k
 unfolding fullRound lastRound
-whole-round true s k t m r p g h e =
-    e ∙ ap (λ (x : List ℕ). addRoundKey x (state (columns k))) (join (g .first) (g .second) (h .first) (h .second) ∙ ap (eachColumn true) p)
-whole-round false s k t m r p g h e =
-    e ∙ ap (λ (x : List ℕ). addRoundKey x (state (columns k))) (join (g .first) (g .second) (h .first) (h .second) ∙ ap (eachColumn false) p)
+column-by-column true s k = refl
+column-by-column false s k = refl
+
+pub whole-round : (last : Bool) (s k t m r : Block) {x y : ℕ} → state (columns t) ≡ shiftRows (state (columns s)) → OnHalves subWord (t .lo) x → OnHalves subWord (t .hi) y
+    → OnHalves (mixUnless last) x (m .lo) × OnHalves (mixUnless last) y (m .hi)
+    → state (columns r) ≡ addRoundKey (state (columns m)) (state (columns k)) → state (columns r) ≡ anyRound last (state (columns s)) (state (columns k))
+whole-round last s k t m r p q h o e =
+    let f : OnHalves (roundColumn last) (t .lo) (m .lo) = round-column last q (o .0) in
+    let g : OnHalves (roundColumn last) (t .hi) (m .hi) = round-column last h (o .1) in
+    e ∙ ap (λ (l : List ℕ). addRoundKey l (state (columns k))) (join (f .first) (f .second) (g .first) (g .second) ∙ ap (eachColumn last) p)
+    ∙ column-by-column last s (state (columns k))
 
 -- ---- two columns made one word
 module _ (a b : ℕ) (h : a < 4294967296) where

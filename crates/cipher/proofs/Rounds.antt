@@ -1,12 +1,10 @@
 -- The loop over the rounds, the copy into the output, and the ways out of the call.
 -- Assumes nothing.
-use mathlib.Core.Path.{_≡_, refl, ap, ap₂, sym, _∙_}
-use mathlib.Core.Bool.{Bool}
+use mathlib.Core.Path.{_≡_, ap, ap₂, sym, _∙_}
 use mathlib.Core.List.{List}
 use Prim.Native.Nat.{ℕ, zero, suc, _+_, _<_}
 use native.Mathlib.Nat.{le-of-eq}
 use native.Mathlib.Numerals.{add-one}
-use native.Mathlib.Omega.{arith}
 use lib.Dec.{eqb}
 use borrow.Author.Tests.{eq-eqb, ne-eqb}
 use lib.ListN.{length, getD, set, take}
@@ -28,27 +26,10 @@ unfoldable pub upTo : List (List ℕ) → List ℕ → ℕ → List ℕ
 upTo w s zero = s
 upTo w s (suc n) = anyRound (eqb n 9) (upTo w s n) (roundKey w (suc n))
 
--- the round constant says which round is the last
-last-constant : (n : ℕ) → n < 10 → eqb (xPower n) 0x36 ≡ eqb n 9
-unfolding xPower
-last-constant zero h = refl
-last-constant (suc zero) h = refl
-last-constant (suc (suc zero)) h = refl
-last-constant (suc (suc (suc zero))) h = refl
-last-constant (suc (suc (suc (suc zero)))) h = refl
-last-constant (suc (suc (suc (suc (suc zero))))) h = refl
-last-constant (suc (suc (suc (suc (suc (suc zero)))))) h = refl
-last-constant (suc (suc (suc (suc (suc (suc (suc zero))))))) h = refl
-last-constant (suc (suc (suc (suc (suc (suc (suc (suc zero)))))))) h = refl
-last-constant (suc (suc (suc (suc (suc (suc (suc (suc (suc zero))))))))) h = refl
-last-constant (suc (suc (suc (suc (suc (suc (suc (suc (suc (suc n)))))))))) h = absurd (let f : ⊥ = omega arith in f)
-
-pub rounds-more : (n : ℕ) (w : List (List ℕ)) (s₀ : List ℕ) {rc : ℕ} {s k x : List ℕ} → n < 10 → rc ≡ xPower n → s ≡ upTo w s₀ n → k ≡ roundKey w (n + 1)
-    → x ≡ anyRound (eqb rc 0x36) s k → x ≡ upTo w s₀ (n + 1)
+pub rounds-more : (n : ℕ) (w : List (List ℕ)) (s₀ : List ℕ) {s k x : List ℕ} → s ≡ upTo w s₀ n → k ≡ roundKey w (n + 1) → x ≡ anyRound (eqb n 9) s k
+    → x ≡ upTo w s₀ (n + 1)
 unfolding upTo
-rounds-more n w s₀ {rc} {s} {k} h o p q r =
-    let last : eqb rc 0x36 ≡ eqb n 9 = ap (λ (c : ℕ). eqb c 0x36) o ∙ last-constant n h in
-    rw (add-one n) (let q′ = rw (add-one n) at q in r ∙ ap (λ (b : Bool). anyRound b s k) last ∙ ap₂ (anyRound (eqb n 9)) p q′)
+rounds-more n w s₀ p q r = rw (add-one n) (let q′ = rw (add-one n) at q in r ∙ ap₂ (anyRound (eqb n 9)) p q′)
 
 pub all-rounds : (n : ℕ) (key block : List ℕ) {k₀ s₀ s : List ℕ} → n ≡ 10 → k₀ ≡ roundKey (keyExpansion key) 0 → s₀ ≡ addRoundKey block k₀
     → s ≡ upTo (keyExpansion key) s₀ n → s ≡ aes128 key block

@@ -1,7 +1,8 @@
 -- The circuit of the S-box in five parts, as gates: what functions inside the crate work out. No public contract cites it, and nothing of it
--- has to be believed: `proofs/Lanes` shows that it is the inverse and the affine step.
+-- has to be believed: `proofs/Lanes` shows that it is the inverse and the affine step, and `proofs/Triples` that it is so at three words at once.
 -- Assumes nothing.
-use Prim.Native.Nat.{ℕ}
+use mathlib.Core.Path.{_≡_}
+use Prim.Native.Nat.{ℕ, _+_, _*_, _/_, _^_}
 use mathlib.Core.List.{List, [], _∷_}
 use lib.Bits.{bitXor, bitAnd}
 use lib.ListN.{getD}
@@ -58,7 +59,7 @@ products z =
     z .z13 ∷ z .z14 ∷ z .z15 ∷ z .z16 ∷ z .z17 ∷ []
 
 abbrev pub outs : Outs → List ℕ
-outs s = s .s7 ∷ s .s5 ∷ s .s3 ∷ s .s1 ∷ s .s6 ∷ s .s4 ∷ s .s2 ∷ s .s0 ∷ []
+outs s = s .s7 ∷ s .s3 ∷ s .s6 ∷ s .s2 ∷ s .s5 ∷ s .s1 ∷ s .s4 ∷ s .s0 ∷ []
 
 -- ---- the parts
 -- from the bits of a byte to the sums that are multiplied
@@ -99,12 +100,68 @@ multiplying = record {
   results = 17 ∷ 16 ∷ 15 ∷ 14 ∷ 13 ∷ 12 ∷ 11 ∷ 10 ∷ 9 ∷ 8 ∷ 7 ∷ 6 ∷ 5 ∷ 4 ∷ 3 ∷ 2 ∷ 1 ∷ 0 ∷ [];
 }
 
--- to the bits of the S-box, the even ones first, all but for the constant 63
+-- to the bits of the S-box, all but for the constant 63: a bit and the one four above it, from the lowest on
 unfoldable pub gathering : Part
 gathering = record {
   gates =
       xor 15 16 ∷ xor 11 12 ∷ xor 7 15 ∷ xor 12 13 ∷ xor 6 16 ∷ xor 7 10 ∷ xor 13 14 ∷ xor 7 10 ∷ xor 14 15 ∷ xor 25 26 ∷
       xor 22 7 ∷ xor 6 3 ∷ xor 16 11 ∷ xor 16 4 ∷ xor 13 2 ∷ xor 29 3 ∷ xor 9 3 ∷ xor 13 4 ∷ xor 22 4 ∷ xor 3 2 ∷ xor 21 2 ∷
       xor 2 1 ∷ xor 8 4 ∷ xor 12 6 ∷ xor 21 9 ∷ xor 17 4 ∷ xor 20 5 ∷ xor 25 7 ∷ xor 9 2 ∷ xor 19 7 ∷ [];
-  results = 5 ∷ 2 ∷ 4 ∷ 1 ∷ 6 ∷ 3 ∷ 0 ∷ 7 ∷ [];
+  results = 5 ∷ 4 ∷ 6 ∷ 0 ∷ 2 ∷ 1 ∷ 3 ∷ 7 ∷ [];
 }
+
+-- ---- three words at once: of each byte in the circuit the lowest three bits count, one for each word, and the others may be anything
+-- masks of one byte, eight times: 55, 33, 11 and 0F
+abbrev pub fives : ℕ
+fives = 0x5555555555555555
+
+abbrev pub threes : ℕ
+threes = 0x3333333333333333
+
+abbrev pub elevens : ℕ
+elevens = 0x1111111111111111
+
+abbrev pub fifteens : ℕ
+fifteens = 0x0f0f0f0f0f0f0f0f
+
+-- the bits of two words under a mask, those of the second n places up
+abbrev pub laid : ℕ → ℕ → ℕ → ℕ → ℕ
+laid n m low high = bitXor (bitAnd low m) (bitAnd high m * 2 ^ n)
+
+-- a and b after the bits of a that are n places above the mask and those of b under it have changed places
+pub record Swapped (n m a b x y : ℕ) : Type 0 where
+  pub lower : x ≡ laid n m a b
+  pub upper : y ≡ laid n m (a / 2 ^ n) (b / 2 ^ n)
+
+-- bit 0 of each half byte of four words, side by side in that half
+abbrev pub sideBySide : ℕ → ℕ → ℕ → ℕ → ℕ
+sideBySide a b c d = bitXor (bitXor (bitXor (bitAnd a elevens) (bitAnd b elevens * 2)) (bitAnd c elevens * 4)) (bitAnd d elevens * 8)
+
+-- the bits of each byte of three words, a plane for each, the lowest first: in the upper half of a plane's byte stands the bit four above
+abbrev pub spread : ℕ → ℕ → ℕ → ℕ → List ℕ
+spread p q r s = p ∷ q ∷ r ∷ s ∷ p / 16 ∷ q / 16 ∷ r / 16 ∷ s / 16 ∷ []
+
+abbrev pub planes : ℕ → ℕ → ℕ → List ℕ
+planes a b c =
+    spread (sideBySide a b c 0) (sideBySide (a / 2) (b / 2) (c / 2) 0) (sideBySide (a / 4) (b / 4) (c / 4) 0) (sideBySide (a / 8) (b / 8) (c / 8) 0)
+
+-- the lower halves of the bytes of two words, those of the second above
+abbrev pub stacked : ℕ → ℕ → ℕ
+stacked low high = laid 4 fifteens low high
+
+-- the words that the circuit's bits make: a bit and the one four above it, stacked; and of each half byte the bit of the first word, of the
+-- second or of the third
+abbrev pub stackedAt : ℕ → List ℕ → ℕ
+stackedAt i l = stacked (getD l i 0) (getD l (i + 1) 0)
+
+abbrev pub outAt : (ℕ → ℕ) → List ℕ → ℕ
+outAt f l = bitXor 0x6363636363636363 (sideBySide (f (stackedAt 0 l)) (f (stackedAt 2 l)) (f (stackedAt 4 l)) (f (stackedAt 6 l)))
+
+abbrev pub firstOut : List ℕ → ℕ
+firstOut = outAt (λ (x : ℕ). x)
+
+abbrev pub secondOut : List ℕ → ℕ
+secondOut = outAt (λ (x : ℕ). x / 2)
+
+abbrev pub thirdOut : List ℕ → ℕ
+thirdOut = outAt (λ (x : ℕ). x / 4)

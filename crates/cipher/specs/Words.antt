@@ -47,9 +47,9 @@ highHalves w = highBits (w / 4294967296) * 4294967296 + highBits (w % 4294967296
 abbrev pub mixWord : List ℕ → List ℕ
 mixWord w = mixColumn (getD w 0 0) (getD w 1 0) (getD w 2 0) (getD w 3 0)
 
--- a round's work on a column after ShiftRows: MixColumns in all but the last
-abbrev pub roundColumn : Bool → List ℕ → List ℕ
-roundColumn last w = cond last (subWord w) (mixWord (subWord w))
+-- the same in all rounds but the last
+abbrev pub mixUnless : Bool → List ℕ → List ℕ
+mixUnless last w = cond last w (mixWord w)
 
 -- both columns of r are f of those of w
 pub record OnHalves (f : List ℕ → List ℕ) (w r : ℕ) : Type 0 where

@@ -1,4 +1,4 @@
-// The S-box worked out, at the eight bytes of each of two words at once and with no table: the inverse and the affine step of
+// The S-box worked out, at the eight bytes of each of three words at once and with no table: the inverse and the affine step of
 // FIPS 197, 5.1.1, by a circuit of 115 gates (Boyar and Peralta). A gate does to each bit of its words the same, so a word can hold a
 // bit of many bytes. The parts are named after what the circuit does with one byte: it goes over to the field of 16 elements, where
 // an inverse takes few gates, and comes back.
@@ -8,6 +8,7 @@ ghost use Rattle.cipher.specs.KeyExpansion.{subWord};
 ghost use Rattle.cipher.specs.Words.{OnHalves};
 ghost use Rattle.cipher.specs.Circuit.{bits, sums, norm, inverses, products, outs};
 ghost use Rattle.cipher.specs.Circuit.{through, summing, norming, inverting, multiplying, gathering};
+ghost use Rattle.cipher.specs.Circuit.{Swapped, fives, threes, stacked, planes, firstOut, secondOut, thirdOut};
 
 // The bits of a byte, the lowest first.
 pub(crate) struct Bits {
@@ -90,21 +91,69 @@ pub(crate) struct Products {
     pub(crate) z17: u64,
 }
 
-// The bits of the S-box, the even ones first, all but for the constant 63.
+// The bits of the S-box, all but for the constant 63. A bit and the one four above it stand together.
 pub(crate) struct Outs {
     pub(crate) s7: u64,
-    pub(crate) s5: u64,
     pub(crate) s3: u64,
-    pub(crate) s1: u64,
     pub(crate) s6: u64,
-    pub(crate) s4: u64,
     pub(crate) s2: u64,
+    pub(crate) s5: u64,
+    pub(crate) s1: u64,
+    pub(crate) s4: u64,
     pub(crate) s0: u64,
 }
 
-pub(crate) struct Pair {
+struct Pair {
+    a: u64,
+    b: u64,
+}
+
+pub(crate) struct Triple {
     pub(crate) a: u64,
     pub(crate) b: u64,
+    pub(crate) c: u64,
+}
+
+// The odd bits of a and the even bits of b change places.
+fn swapped_ones(a: u64, b: u64) -> Pair
+    ensures { λ r. ⌜ Swapped 1 fives a b (r .a) (r .b) ⌝ }
+{
+    let t = ((a >> 1) ^ b) & 0x5555555555555555;
+    Pair {
+        a: a ^ (t << 1),
+        b: b ^ t,
+    }
+}
+
+// The upper two bits of each half byte of a and the lower two of b change places.
+fn swapped_twos(a: u64, b: u64) -> Pair
+    ensures { λ r. ⌜ Swapped 2 threes a b (r .a) (r .b) ⌝ }
+{
+    let t = ((a >> 2) ^ b) & 0x3333333333333333;
+    Pair {
+        a: a ^ (t << 2),
+        b: b ^ t,
+    }
+}
+
+// The bits of each byte of three words. Of a byte in the circuit the lowest three bits count, one for each word.
+fn bits_of(a: u64, b: u64, c: u64) -> Bits
+    ensures { λ r. ⌜ bits r ≡ planes a b c ⌝ }
+{
+    let x = swapped_ones(a, b);
+    let y = swapped_ones(c, 0);
+    let u = swapped_twos(x.a, y.a);
+    let v = swapped_twos(x.b, y.b);
+    Bits {
+        x7: u.a,
+        x6: v.a,
+        x5: u.b,
+        x4: v.b,
+        x3: u.a >> 4,
+        x2: v.a >> 4,
+        x1: u.b >> 4,
+        x0: v.b >> 4,
+    }
 }
 
 fn sums_of(x: Bits) -> Sums
@@ -303,48 +352,44 @@ fn outs_of(z: Products) -> Outs
     let s2 = t55 ^ t67;
     Outs {
         s7,
-        s5,
         s3,
-        s1,
         s6,
-        s4,
         s2,
+        s5,
+        s1,
+        s4,
         s0,
     }
 }
 
-// Of each word in the circuit two bits of a byte count: the lowest for a, and the one above it for b.
-pub(crate) fn sub_pair(a: u64, b: u64) -> Pair
-    ensures { λ r. ⌜ OnHalves subWord a (r .a) × OnHalves subWord b (r .b) ⌝ }
+// The lower halves of the bytes of both words, those of high above those of low.
+fn stacked(low: u64, high: u64) -> u64
+    ensures { λ r. ⌜ r ≡ stacked low high ⌝ }
 {
-    let fives: u64 = 0x5555555555555555;
-    let tens: u64 = 0xaaaaaaaaaaaaaaaa;
-    let x7 = (a & fives) ^ ((b & fives) << 1);
-    let x6 = ((a >> 1) & fives) ^ (b & tens);
-    let x5 = x7 >> 2;
-    let x4 = x6 >> 2;
-    let x3 = x7 >> 4;
-    let x2 = x6 >> 4;
-    let x1 = x7 >> 6;
-    let x0 = x6 >> 6;
-    let y = sums_of(Bits {
-        x7,
-        x6,
-        x5,
-        x4,
-        x3,
-        x2,
-        x1,
-        x0,
-    });
-    let v = inverse_of(norm_of(y));
-    let s = outs_of(products_of(y, v));
-    let m: u64 = 0x0303030303030303;
-    let even = (s.s7 & m) ^ ((s.s5 & m) << 2) ^ ((s.s3 & m) << 4) ^ ((s.s1 & m) << 6);
-    let odd = (s.s6 & m) ^ ((s.s4 & m) << 2) ^ ((s.s2 & m) << 4) ^ ((s.s0 & m) << 6);
-    let c: u64 = 0x6363636363636363;
-    Pair {
-        a: c ^ (even & fives) ^ ((odd & fives) << 1),
-        b: c ^ ((even >> 1) & fives) ^ (odd & tens),
+    let m: u64 = 0x0f0f0f0f0f0f0f0f;
+    (low & m) ^ ((high & m) << 4)
+}
+
+// The three words that the bits make, with the constant 63.
+fn words_of(s: Outs) -> Triple
+    ensures { λ r. ⌜ (r .a ≡ firstOut (outs s)) × (r .b ≡ secondOut (outs s)) × (r .c ≡ thirdOut (outs s)) ⌝ }
+{
+    let x = swapped_ones(stacked(s.s7, s.s3), stacked(s.s6, s.s2));
+    let y = swapped_ones(stacked(s.s5, s.s1), stacked(s.s4, s.s0));
+    let u = swapped_twos(x.a, y.a);
+    let v = swapped_twos(x.b, y.b);
+    let k: u64 = 0x6363636363636363;
+    Triple {
+        a: k ^ u.a,
+        b: k ^ v.a,
+        c: k ^ u.b,
     }
+}
+
+pub(crate) fn sub_triple(a: u64, b: u64, c: u64) -> Triple
+    ensures { λ r. ⌜ OnHalves subWord a (r .a) × OnHalves subWord b (r .b) × OnHalves subWord c (r .c) ⌝ }
+{
+    let y = sums_of(bits_of(a, b, c));
+    let v = inverse_of(norm_of(y));
+    words_of(outs_of(products_of(y, v)))
 }

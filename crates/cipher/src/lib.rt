@@ -10,13 +10,12 @@ ghost use Rattle.cipher.specs.AddRoundKey.{addRoundKey};
 ghost use Rattle.cipher.specs.KeyExpansion.{xorWord, subWord, rotWord};
 ghost use Rattle.cipher.specs.Cipher.{aes128};
 ghost use Rattle.cipher.specs.Call.{Enciphered};
-ghost use Rattle.cipher.specs.Words.{bytes, word, columns, state, NextKey, OnHalves, merge, roundColumn};
+ghost use Rattle.cipher.specs.Words.{bytes, word, columns, state, NextKey, OnHalves, merge, mixUnless};
 
 mod circuit;
 mod word;
 
-use circuit::Pair;
-use circuit::sub_pair;
+use circuit::sub_triple;
 use word::high_half;
 use word::joined;
 use word::long;
@@ -31,26 +30,22 @@ const SERVED: u8 = 0;
 
 const BAD_LENGTH: u8 = 6;
 
-// The round constant of the last round, which tells it from the others: at a test of the count the compiler writes the round twice.
-const LAST: u8 = 0x36;
-
 // Four columns, two in a word: a state, or a round key.
 struct Block {
     lo: u64,
     hi: u64,
 }
 
-// SubBytes of two columns, and MixColumns of them in all rounds but the last; beside it the S-box at the bytes of k.
-// It is called at two places and so stays one function in the compiled code.
-fn round_word(w: u64, k: u64, rc: u8) -> Pair
-    ensures { λ r. ⌜ OnHalves (roundColumn (eqb rc 0x36)) w (r .a) × OnHalves subWord k (r .b) ⌝ }
+// MixColumns in all of ten rounds but the last, n = 9.
+fn mixed_but_last(s: Block, n: usize) -> Block
+    ensures { λ r. ⌜ OnHalves (mixUnless (eqb n 9)) (s .lo) (r .lo) × OnHalves (mixUnless (eqb n 9)) (s .hi) (r .hi) ⌝ }
 {
-    let t = sub_pair(w, k);
-    if rc != LAST {
-        let a = mixed(t.a);
-        Pair { a, b: t.b }
+    if n != 9 {
+        let lo = mixed(s.lo);
+        let hi = mixed(s.hi);
+        Block { lo, hi }
     } else {
-        t
+        s
     }
 }
 
@@ -113,6 +108,7 @@ fn times_x(x: u8) -> u8
     (x << 1) ^ ((x >> 7) * 0x1b)
 }
 
+// A round runs the circuit once: at the state and, for the next round key, at the last column of this one.
 fn enciphered(key: Block, block: Block) -> Block
     ensures { λ r. ⌜ state (columns r) ≡ aes128 (state (columns key)) (state (columns block)) ⌝ }
 {
@@ -121,12 +117,11 @@ fn enciphered(key: Block, block: Block) -> Block
     let mut rc: u8 = 1;
     for n in 0usize..10 {
         let t = shifted(s);
-        let x = round_word(t.lo, k.hi / 4294967296, rc);
-        let y = round_word(t.hi, 0, rc);
-        let next = next_key(k, x.b, rc);
+        let x = sub_triple(t.lo, t.hi, k.hi / 4294967296);
         let lo = x.a;
-        let hi = y.a;
-        let after = add_key(Block { lo, hi }, next);
+        let hi = x.b;
+        let next = next_key(k, x.c, rc);
+        let after = add_key(mixed_but_last(Block { lo, hi }, n), next);
         rc = times_x(rc);
         k = next;
         s = after;

@@ -32,14 +32,14 @@ loop-holds c = (omega arith, search needs, key-itself (columns (c .before .args 
 shifted-requires : tie.Need-shifted-requires Inv-loop μ-loop
 shifted-requires c κs = search needs
 
-round-word-requires : tie.Need-round-word-requires Inv-loop μ-loop
-round-word-requires c κs = search needs
-
-round-word-requires-2 : tie.Need-round-word-requires-2 Inv-loop μ-loop
-round-word-requires-2 c κs = search needs
+sub-triple-requires : tie.Need-sub-triple-requires Inv-loop μ-loop
+sub-triple-requires c κs = search needs
 
 next-key-requires : tie.Need-next-key-requires Inv-loop μ-loop
-next-key-requires c κs = c .before .round-word .ensures .1
+next-key-requires c κs = c .sub-triple .ensures .2
+
+mixed-but-last-requires : tie.Need-mixed-but-last-requires Inv-loop μ-loop
+mixed-but-last-requires c κs = search needs
 
 add-key-requires-2 : tie.Need-add-key-requires-2 Inv-loop μ-loop
 add-key-requires-2 c κs = search needs
@@ -56,8 +56,9 @@ loop-less c = omega arith
 loop-again : tie.Need-loop-again Inv-loop μ-loop
 loop-again c =
     let after = c .before in
-    let keyed = after .before in
-    let words = keyed .before .before in
+    let mixed = after .before in
+    let keyed = mixed .before in
+    let words = keyed .before in
     let turned = words .before .before in
     let at = turned .before .before in
     let key = state (columns (at .before .before .args .key)) in
@@ -66,12 +67,12 @@ loop-again c =
     let next =
     next-round key n (columns (at .loop .k)) (columns (keyed .next-key .result)) (omega arith) (inv .2) (rw (inv .1) at (keyed .next-key .ensures)) in
     let round =
-    whole-round (eqb (at .loop .rc) 0x36) (at .loop .s) (keyed .next-key .result) (turned .shifted .result) _ (after .add-key2 .result)
-    (turned .shifted .ensures) (words .round-word .ensures .0) (keyed .before .round-word2 .ensures .0) (after .add-key2 .ensures) in (
+    whole-round (eqb n 9) (at .loop .s) (keyed .next-key .result) (turned .shifted .result) (mixed .mixed-but-last .result) (after .add-key2 .result)
+    (turned .shifted .ensures) (words .sub-triple .ensures .0) (words .sub-triple .ensures .1) (mixed .mixed-but-last .ensures) (after .add-key2 .ensures) in (
       omega arith,
       power-more n (inv .1) (c .times-x .ensures),
       next,
-      rounds-more n (keyExpansion key) _ (omega arith) (inv .1) (inv .3) (as-state next) round,
+      rounds-more n (keyExpansion key) _ (inv .3) (as-state next) round,
     )
 
 returns : tie.Need-returns Inv-loop μ-loop
@@ -84,4 +85,4 @@ returns c =
 pub enciphered-spec : {M : Type 1} → statement M
 enciphered-spec =
     tie.close
-    (tie.spec Inv-loop μ-loop add-key-requires loop-holds shifted-requires round-word-requires round-word-requires-2 next-key-requires add-key-requires-2 times-x-requires add-n loop-less loop-again returns)
+    (tie.spec Inv-loop μ-loop add-key-requires loop-holds shifted-requires sub-triple-requires next-key-requires mixed-but-last-requires add-key-requires-2 times-x-requires add-n loop-less loop-again returns)
