@@ -25,8 +25,8 @@
  *
  *                     code    constants   stack of a call      C functions needed
  *   liblimpetnook.a   92000   1250        LIMPET_TEXT_STACK    memcpy, memset
- *   limpet_aes128     1335    0           LIMPET_AES128_STACK  none
- *   limpet_code       2500    950         LIMPET_CODE_STACK    memcpy
+ *   limpet_aes128     1531    0           LIMPET_AES128_STACK  none
+ *   limpet_code       2640    950         LIMPET_CODE_STACK    memcpy
  *
  * The other two rows are each for a program that calls that function alone and is
  * linked with --gc-sections: each function is in a section of its own. A program
