@@ -4,15 +4,16 @@ use Prim.Native.Nat.{ℕ, zero, suc, _+_, _≤_, _<_}
 use mathlib.Core.Bool.{Bool, true, false, _&&_}
 use mathlib.Core.List.{List, [], _∷_}
 use mathlib.Core.Path.{_≡_, refl, sym, ap, subst, _∙_}
+use mathlib.Core.Logic.{by-cases}
+use native.Mathlib.Decide.{decLt}
 use native.Mathlib.Omega.{arith}
 use lib.Dec.{eqb, ltb}
-use lib.ListN.{length, drop-of-length-le}
-use borrow.Author.Tests.{lt-ltb, le-ltb, eq-eqb, ne-eqb}
-use Rattle.files.proofs.Checks.{last-fails, third-fails}
+use lib.ListN.{length, take, length-take, drop-of-length-le}
+use borrow.Author.Tests.{lt-ltb, le-ltb, eqb-true, eq-eqb, ne-eqb}
+use Rattle.files.proofs.Checks.{both, each, last-fails, third-fails}
 use Rattle.rules.specs.Words.{same}
-use Rattle.rules.proofs.Equal.{same-equal}
 use Rattle.digits.specs.Digits.{tab}
-use Rattle.lines.specs.Grammar.{firstAt, tabAt, tabs, before, after, record-of, isHex, bytesOf, commandWord, isCommand, randomIn, isReset}
+use Rattle.lines.specs.Grammar.{firstAt, tabAt, tabs, before, after, field, record-of, isHex, bytesOf, commandWord, isIssue, isCommand, randomIn}
 use Rattle.lines.proofs.Joined.{Plain, tab-or-not, head-plain, before-all, parted}
 use Rattle.lines.proofs.Numbers.{hex-plain, hex-read}
 
@@ -35,6 +36,15 @@ tab-inside (b ∷ s) n h =
     tab-or-not b
     (λ e. rw (eq-eqb b tab e) (omega arith))
     (λ e. let k : 0 + tabs s ≡ suc n = rw e at h in let m : tabAt s < length s = tab-inside s n (omega arith) in rw e (omega (arith, m)))
+
+-- what stands before the first tab is shorter than all where there is a tab
+before-short : (s : List ℕ) → ltb (length (before s)) (length s) ≡ ltb (tabAt s) (length s)
+unfolding before
+before-short s =
+    let l = length-take (tabAt s) s in
+    by-cases (decLt (tabAt s) (length s))
+    (λ h. lt-ltb (length (take (tabAt s) s)) (length s) (omega (arith, l, h)) ∙ sym (lt-ltb (tabAt s) (length s) h))
+    (λ h. le-ltb (length (take (tabAt s) s)) (length s) (omega (arith, l, h)) ∙ sym (le-ltb (tabAt s) (length s) (omega (arith, h))))
 
 by-tabs : {A : Type 0} (s : List ℕ) → (Plain s → A) → ((n : ℕ) → tabs s ≡ suc n → A) → A
 by-tabs {A} s f g = go (tabs s) refl
@@ -83,7 +93,7 @@ module _ (s : List ℕ) where
         let m : tabs s ≡ suc (suc n) = tabs-before n h in
         not-command (λ z. omega (arith, k, m, e, z)))
 
-    pub command-read : isCommand s ≡ (ltb (tabAt rest) (length rest) && (isHex (before rest) && isHex (after rest)))
+    command-read : isCommand s ≡ (ltb (tabAt rest) (length rest) && (isHex (before rest) && isHex (after rest)))
     command-read =
         by-tabs rest
         (λ p. let e : ltb (tabAt rest) (length rest) ≡ false = le-ltb (tabAt rest) (length rest) (let k : tabAt rest ≡ length rest = plain-end rest p in omega (arith, k)) in
@@ -96,15 +106,33 @@ module _ (s : List ℕ) where
         go n h e true t = read-hex n h t ∙ sym (rw (e, t))
         go n h e false t = read-other n h t ∙ sym (third-fails (ltb (tabAt rest) (length rest)) (isHex (before rest)) (isHex (after rest)) t)
 
-    -- another word than RESET
-    pub command-no-reset : isReset s ≡ false
-    unfolding isReset same
-    command-no-reset = let e : before s ≡ commandWord = same-equal (before s) commandWord w in rw e (last-fails (eqb (tabs s) 0) false refl)
-
   -- another word
-  pub other-word : same (before s) commandWord ≡ false → isCommand s ≡ false
+  other-word : same (before s) commandWord ≡ false → isCommand s ≡ false
   unfolding isCommand
   other-word f = let e : (eqb (tabs s) 2 && same (before s) commandWord) ≡ false = last-fails (eqb (tabs s) 2) (same (before s) commandWord) f in rw e
+
+  -- with any word
+  pub command-parted : (t : Bool) → same (before s) commandWord ≡ t
+      → isCommand s ≡ (t && (ltb (length (before (after s))) (length (after s)) && (isHex (before (after s)) && isHex (after (after s)))))
+  command-parted true w = command-read w ∙ sym (rw (before-short (after s)))
+  command-parted false w = other-word w
+
+  -- a CMD is no ISSUE, and both its parts are hex
+  module _ (c : isCommand s ≡ true) where
+    pub command-no-issue : isIssue s ≡ false
+    unfolding isCommand isIssue
+    command-no-issue =
+        let e = eqb-true (tabs s) 2 (both (eqb (tabs s) 2) (same (before s) commandWord) (each (record-of 2 commandWord s ∷ isHex (field 1 s) ∷ isHex (field 2 s) ∷ []) c .0) .0) in
+        let n : eqb (tabs s) 9 ≡ false = ne-eqb (tabs s) 9 (λ h. omega (arith, e, h)) in
+        rw n
+
+    pub command-hex : (isHex (before (after s)) ≡ true) × (isHex (after (after s)) ≡ true)
+    command-hex =
+        let w = same (before s) commandWord in
+        let l = ltb (length (before (after s))) (length (after s)) in
+        let f = isHex (before (after s)) in
+        let g = isHex (after (after s)) in
+        both f g (both l (f && g) (both w (l && (f && g)) (sym (command-parted w refl) ∙ c) .1) .1)
 
   -- the random, to the line's end
   pub random-read : isHex (after (after s)) ≡ true → randomIn s ≡ bytesOf (after (after s))

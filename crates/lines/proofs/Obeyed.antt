@@ -23,7 +23,7 @@ use Rattle.lines.specs.Grammar.{isIssue, orderIn, isCommand, commandIn, 
 use Rattle.lines.specs.Text.{printed}
 use Rattle.lines.specs.Script.{bench, Told, told, bad, afterIssue, afterCommand, afterReset, onCard, handled, answered, textOf, Written, written, outSize, written-line, answer}
 use Rattle.lines.specs.Says.{joined, Line, issues, commands, resets, IsLine, orderFor, ReadAs, reported, leaves, Unchanged, Issues, Commands, Resets, Does, LinesAnswered, NotAnswered, NoCardFirst}
-use Rattle.lines.proofs.Telling.{bad-long}
+use Rattle.lines.proofs.Telling.{bad-long, issue-answered, early-answered, command-answered, reset-answered}
 use Rattle.lines.proofs.Spelt.{spelled-read, read-spelled}
 
 -- the line printed
@@ -86,13 +86,9 @@ module _ (b : Bench) (area : List ℕ) (number : ℕ) (out : List ℕ) (size : l
       split P (eqb (length area) areaSize) (λ _. split P (goodOrder o) (λ _ h. absurd (h refl)) (λ _ h. refl)) (λ _ h. refl)
 
   module _ (s : List ℕ) (few : length s ≤ 1024) where
-    issue-told : isIssue s ≡ true → answered b area s ≡ afterIssue b (issue (orderIn s) area)
-    unfolding handled
-    issue-told e = rw (le-leb (length s) 1024 few, e)
-
     issue-line : (o : Order) → isIssue s ≡ true → orderIn s ≡ o → Issues b area number out (Is s) o
     issue-line o e f =
-        let t : answered b area s ≡ afterIssue b (issue o area) = issue-told e ∙ ap (λ (x : Order). afterIssue b (issue x area)) f in
+        let t : answered b area s ≡ afterIssue b (issue o area) = issue-answered b area s few e ∙ ap (λ (x : Order). afterIssue b (issue x area)) f in
         let i : Issued = issue o area in
         record {
           good = λ z. quiet s (bench true (i .answer .card)) (i .area) 0 (t ∙ rw z);
@@ -102,24 +98,10 @@ module _ (b : Bench) (area : List ℕ) (number : ℕ) (out : List ℕ) (size : l
 
     -- CMD and RESET before a good ISSUE
     early : isIssue s ≡ false → b .issued ≡ false → Unchanged b area number out (Is s) 9
-    unfolding handled
-    early e f = quiet s b area 9 (rw (le-leb (length s) 1024 few, e, f))
+    early e f = quiet s b area 9 (early-answered b area s few e f)
 
-    module _ (no-issue : isIssue s ≡ false) (is-card : b .issued ≡ true) where
-      same-bench : bench true (b .card) ≡ b
-      same-bench = ap (λ (x : Bool). bench x (b .card)) (sym is-card)
-
-      on-card : answered b area s ≡ onCard b area s (zeros replySize)
-      unfolding handled
-      on-card = rw (le-leb (length s) 1024 few, no-issue, is-card)
-
-      command-told : isCommand s ≡ true → answered b area s ≡ afterCommand (command (b .card) area (commandIn s) (randomIn s) (zeros replySize))
-      unfolding onCard
-      command-told e = on-card ∙ rw e
-
-      reset-told : isCommand s ≡ false → isReset s ≡ true → answered b area s ≡ afterReset area (reset (b .card) area)
-      unfolding onCard
-      reset-told e f = on-card ∙ rw (e, f)
+same-bench : (b : Bench) → b .issued ≡ true → bench true (b .card) ≡ b
+same-bench b is-card = ap (λ (x : Bool). bench x (b .card)) (sym is-card)
 
 -- a command that is served, and one that is not
 each-end : (P : Done → Type 0) (t₁ t₂ t₃ t₄ : Bool) (d₀ d₁ d₂ d₃ d₄ : Done) → P d₀ → P d₄ → P d₃ → P d₂ → P d₁
@@ -157,7 +139,7 @@ module _ (b : Bench) (area : List ℕ) (number : ℕ) (out : List ℕ) (size : l
   command-line cmd random e f g =
       let d : Done = command (b .card) area cmd random (zeros 258) in
       let t : answered b area s ≡ afterCommand d =
-      command-told b area number out size room s few no-issue is-card e
+      command-answered b area s few no-issue is-card e
       ∙ ap₂ (λ (x y : List ℕ). afterCommand (command (b .card) area x y (zeros replySize))) f g in
       let st = step (b .card) area cmd random in
       record {
@@ -170,20 +152,20 @@ module _ (b : Bench) (area : List ℕ) (number : ℕ) (out : List ℕ) (size : l
         not-served = λ z.
             let k : afterCommand d ≡ told b area (d .answer .outcome) [] =
             ap afterCommand (command-refused (b .card) area cmd random (zeros 258) z)
-            ∙ ap (λ (x : Bench). told x area (d .answer .outcome) []) (same-bench b area number out size room s few no-issue is-card) in
+            ∙ ap (λ (x : Bench). told x area (d .answer .outcome) []) (same-bench b is-card) in
             quiet b area number out size room s b area (d .answer .outcome) (t ∙ k);
       }
 
   reset-line : isCommand s ≡ false → isReset s ≡ true → Resets b area number out (answer b area s number out) (b .card)
   reset-line e f =
       let a : Answer = reset (b .card) area in
-      let t : answered b area s ≡ afterReset area a = reset-told b area number out size room s few no-issue is-card e f in
+      let t : answered b area s ≡ afterReset area a = reset-answered b area s few no-issue is-card e f in
       record {
         served = λ z. quiet b area number out size room s (bench true (a .card)) area 0 (t ∙ ap (λ (o : ℕ). told (bench true (a .card)) area o []) z);
         not-served = λ z.
             quiet b area number out size room s b area (a .outcome)
             (t ∙ ap (λ (x : Card). told (bench true x) area (a .outcome) []) (reset-refused (b .card) area z)
-            ∙ ap (λ (x : Bench). told x area (a .outcome) []) (same-bench b area number out size room s few no-issue is-card));
+            ∙ ap (λ (x : Bench). told x area (a .outcome) []) (same-bench b is-card));
       }
 
 -- what each of the three does
