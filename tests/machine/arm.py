@@ -173,6 +173,25 @@ class Machine:
         self.decide(origins, "it")
         return int(target, 16) if taken else after
 
+    def led(self, mnemonic, text, after, relocation, condition):
+        """Where an instruction leads that does nothing but lead somewhere; None for any other. condition: by which it is a jump, or ""."""
+        function, _ = self.where
+        args = operands(text)
+        if mnemonic == "nop":
+            return function, after
+        if mnemonic == "bl" and relocation:
+            return self.called(relocation, after)
+        if relocation:
+            raise Refused("it leads out of the function, or the linker puts an operand in")
+        if mnemonic == "b":
+            return function, int(text, 16)
+        if condition in CONDITIONS:
+            return function, self.jump(text, *self.condition(condition), after)
+        if mnemonic in ("cbz", "cbnz"):
+            value = self.get(args[0])
+            return function, self.jump(args[1], (value[0] == 0) == (mnemonic == "cbz"), value[1], after)
+        return None
+
     def called(self, callee, after):
         """Where a call leads. memcpy and memset are done here; the caller's registers are lost to them."""
         function, _ = self.where
@@ -273,21 +292,10 @@ class Arm64(Machine):
         function, _ = self.where
         args = operands(text)
         onward = (function, after)
-        if mnemonic == "nop":
-            return onward
         if mnemonic == "ret" and not args:
             return self.returned(self.get("x30"))
-        if mnemonic == "bl" and relocation:
-            return self.called(relocation, after)
-        if relocation:
-            raise Refused("it leads out of the function, or the linker puts an operand in")
-        if mnemonic == "b":
-            return function, int(text, 16)
-        if mnemonic.startswith("b.") and mnemonic[2:] in CONDITIONS:
-            return function, self.jump(text, *self.condition(mnemonic[2:]), after)
-        if mnemonic in ("cbz", "cbnz"):
-            value = self.get(args[0])
-            return function, self.jump(args[1], (value[0] == 0) == (mnemonic == "cbz"), value[1], after)
+        if to := self.led(mnemonic, text, after, relocation, mnemonic[2:] if mnemonic.startswith("b.") else ""):
+            return to
         if mnemonic in ("tbz", "tbnz"):
             value = self.get(args[0])
             return function, self.jump(args[2], (value[0] >> int(args[1][1:], 0) & 1 == 0) == (mnemonic == "tbz"), value[1], after)
@@ -515,21 +523,10 @@ class Thumb(Machine):
             other = {**pairs, **{b: a for a, b in pairs.items()}}[args[0]]
             self.waiting = [args[0] if letter == "t" else other for letter in match[1]]
             return onward
-        if mnemonic == "nop":
-            return onward
         if mnemonic == "bx" and args == ["lr"]:
             return self.returned(self.get("lr"))
-        if mnemonic == "bl" and relocation:
-            return self.called(relocation, after)
-        if relocation:
-            raise Refused("it leads out of the function, or the linker puts an operand in")
-        if mnemonic == "b":
-            return function, int(text, 16)
-        if mnemonic[0] == "b" and mnemonic[1:] in CONDITIONS:
-            return function, self.jump(text, *self.condition(mnemonic[1:]), after)
-        if mnemonic in ("cbz", "cbnz"):
-            value = self.get(args[0])
-            return function, self.jump(args[1], (value[0] == 0) == (mnemonic == "cbz"), value[1], after)
+        if to := self.led(mnemonic, text, after, relocation, mnemonic[1:] if mnemonic[0] == "b" else ""):
+            return to
         if mnemonic in ("push", "pop", "ldmia", "stmia", "stmdb", "ldmdb"):
             to = self.many(mnemonic, args)
             return onward if to is None else self.returned(to)
