@@ -30,7 +30,7 @@ use Rattle.rules.specs.Response.{fetches}
 use Rattle.rules.specs.Calls.{cleared}
 use Rattle.rules.proofs.Good.{sound-good}
 use Rattle.rules.proofs.Targets.{place-named}
-use Rattle.demands.specs.Ledger.{Kind, ended, told, Label, Tag, Tree, labelGiven, sizeOf, turnedTo, grown, Ledger, page, tells, kind, kindIn, booked}
+use Rattle.demands.specs.Ledger.{Kind, ended, Label, Tag, Tree, labelGiven, sizeOf, turnedTo, grown, Ledger, page, tells, kind, kindIn, booked}
 use Rattle.demands.specs.Run.{world, Sound}
 use Rattle.demands.specs.Held.{labelOf, tagOf}
 use Rattle.demands.proofs.Trees.{each-same}
@@ -45,12 +45,12 @@ use Rattle.power.specs.Recovery.{tidied}
 use Rattle.power.proofs.Cuts.{puts-append}
 use Rattle.power.proofs.Tidy.{tidied-sound}
 use Rattle.cuts.specs.Ledger.{journalBytes, changeStores, cutKind, makeStores, cutTree, cutEntered}
-use Rattle.cuts.specs.Cut.{cutAt, cutTouch, presentedTo, Appended}
+use Rattle.cuts.specs.Cut.{cutAt, presentedTo, Appended}
 use Rattle.cuts.proofs.Planned.{Code, no-code, MakesNone, Behind, plan-by}
 use Rattle.cuts.proofs.Doing.{Doing, doing}
 use Rattle.cuts.proofs.Heard.{present-put, heard-sound}
 use Rattle.cuts.proofs.Whole.{same-stores}
-use Rattle.cuts.proofs.Touches.{touch-cut}
+use Rattle.cuts.proofs.Touches.{cutTouch, touch-cut}
 use Rattle.cuts.proofs.Cut.{deed-cut, make-index, found-index, touch-files}
 use Rattle.cuts.proofs.Acts.{kindOfAct, treeOfAct, act-kind, act-tree}
 use Rattle.cuts.proofs.Logins.{cleared-login, touch-login}

@@ -18,7 +18,7 @@ use Rattle.files.specs.Words.{isZero}
 use Rattle.files.specs.Part.{part, splice, zeros}
 use Rattle.files.specs.State.{blankFile, withFile, withFiles, withNewest}
 use Rattle.files.specs.Types.{cyclic, isVariable, count, recordLength, size}
-use Rattle.files.specs.Directory.{used, file, start, end, extent, isPlace}
+use Rattle.files.specs.Directory.{used, start, end, extent, isPlace}
 use Rattle.files.specs.Record.{nextStart, entry, appended, partedFile}
 use Rattle.files.specs.Listed.{records}
 use Rattle.files.specs.Create.{areaSize, created, creates, founded}
@@ -61,7 +61,7 @@ use Rattle.power.proofs.Cuts.{EachCut, cut-none, cut-first, cut-then}
 use Rattle.power.proofs.Partial.{splice-mixed, mixed-length, cyclic-kept, oldest-gone, variable-kept, append-still-parted, one-less}
 use Rattle.power.proofs.Tidy.{tidied-sound, lost-tidied}
 use Rattle.cuts.specs.Ledger.{journalBytes, changeStores}
-use Rattle.cuts.specs.Cut.{Unchanged, listOf, oneMore, Appended, AllowedDeed, AllowedTouch, AllowedWork, heard, Allowed, cutTouch, cutAt, CutRecovers, RecoverRefused}
+use Rattle.cuts.specs.Cut.{Unchanged, listOf, oneMore, Appended, AllowedDeed, AllowedTouch, AllowedWork, heard, Allowed, cutAt, CutRecovers, RecoverRefused}
 use Rattle.cuts.proofs.Whole.{known-put, withoutOldest, known-after, known-some, same-stores}
 use Rattle.cuts.proofs.Segments.{Then, empty-then, area-cuts, append-cuts, make-cuts, found-cuts}
 use Rattle.cuts.proofs.Parted.{extent-long, in-list, is-parted-here, long-enough, own-extent, parted-one, others-same, same-entry, past-extent, parted-past, new-fits, new-sound}
@@ -69,7 +69,7 @@ use Rattle.cuts.proofs.Bytes.{byte-outside, old-or-new}
 use Rattle.cuts.proofs.Planned.{Code, no-code, plan-by}
 use Rattle.cuts.proofs.Doing.{Updates, Appends, Doing, doing}
 use Rattle.cuts.proofs.Heard.{heard-put, heard-files, heard-sound}
-use Rattle.cuts.proofs.Touches.{touch-cut, touch-allowed}
+use Rattle.cuts.proofs.Touches.{cutTouch, touch-cut, touch-allowed}
 
 -- what a list of records may be after an append that was cut
 abbrev Lists : File → List (List ℕ) → List ℕ → List (List ℕ) → Type 0

@@ -18,7 +18,7 @@ use Rattle.demands.proofs.Presented.{presented-is}
 use Rattle.demands.proofs.Rows.{kindOf}
 use Rattle.demands.proofs.Follows.{Full, act, compare, change, reload}
 use Rattle.cuts.specs.Ledger.{journalBytes, changeStores, cutKind}
-use Rattle.cuts.specs.Cut.{cutTouch}
+use Rattle.cuts.proofs.Touches.{cutTouch}
 
 -- the session is over
 pub cleared-login : (c : Card) (w : Which) → login w (cleared c) ≡ act w ended (login w c)
@@ -31,9 +31,6 @@ cut-about n true x = refl
 cut-about n false x = refl
 
 module _ (c : Card) (q : Full c) (v w : Which) where
-  abbrev n : ℕ
-  n = numberOf v
-
   none-other : (e : Bool) → login w c ≡ act w (cond e other other) (login w c)
   none-other true = refl
   none-other false = refl

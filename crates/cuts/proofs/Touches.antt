@@ -34,7 +34,7 @@ use Rattle.power.proofs.Journal.{none-possible, journal-law}
 use Rattle.power.proofs.Fits.{value-bytes, credential-fit}
 use Rattle.power.proofs.Tidy.{tidied-sound}
 use Rattle.cuts.specs.Ledger.{journalBytes, changeStores}
-use Rattle.cuts.specs.Cut.{AllowedTouch, presentedTo, cutTouch, LoweredFirst, RestoredWhereEqual}
+use Rattle.cuts.specs.Cut.{AllowedTouch, presentedTo, LoweredFirst, RestoredWhereEqual}
 use Rattle.cuts.proofs.Heard.{present-put}
 use Rattle.cuts.proofs.Whole.{empty-journal, value-sixteen, value-put, presented-is, value-left, value-whole, reload-put}
 
@@ -43,6 +43,19 @@ pub record Gives (x : Card) (area : List ℕ) (m : Memory) : Type 0 where
   pub card-is : tidied (m .card) ≡ cleared x
   pub area-is : m .area ≡ area
   pub may : possible (m .card) ≡ true
+
+-- that card, by the number of stores: the first lowers the tries, the second restores them; a new PIN is whole from the store on that comes after
+-- the 17 bytes in the journal, and a change has 53 stores in all, after which a reload restores the tries
+abbrev pub cutTouch : Card → Touch → ℕ → Card
+cutTouch c nothing n = c
+cutTouch c (presents w value given) n =
+    cond (isZero n) c
+    (cond (leb 2 n && same value given) (withLogin w c (restored (login w c .tries)) true) (withLogin w c (lowered (login w c .tries)) false))
+cutTouch c (changes w d) n = cond (leb n journalBytes) c (withValue w c d)
+cutTouch c (reloads w d) n =
+    cond (leb n journalBytes) c
+    (cond (leb n changeStores) (withValue w c d) (withLogin w (withValue w c d) (restored (login w c .tries)) false))
+cutTouch c (challenges k) n = c
 
 -- how many stores there are in a change
 change-length : (n : ℕ) (d : List ℕ) → length d ≤ 16 → length (journaled (credential n) (valueBytes d)) ≡ changeStores

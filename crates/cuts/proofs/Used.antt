@@ -10,7 +10,7 @@ use Rattle.rules.specs.declared.Session.{Session}
 use Rattle.rules.specs.declared.Response.{Response}
 use Rattle.rules.specs.declared.Answer.{Answer}
 use Rattle.rules.specs.Step.{step}
-use Rattle.rules.specs.Calls.{Order, Done, replySize, randomSize, refused, served, command, reset, issue}
+use Rattle.rules.specs.Calls.{Order, Done, replySize, randomSize, refused, served, reset, issue}
 use Rattle.rules.proofs.Good.{sound-good}
 use Rattle.demands.specs.Ledger.{resets, Ledger, servable, next}
 use Rattle.demands.specs.Ledger as calls

@@ -29,7 +29,7 @@ use Rattle.rules.specs.declared.Credential.{Credential}
 use Rattle.rules.specs.declared.Journal.{Journal}
 use Rattle.rules.specs.declared.Ins.{Ins}
 use Rattle.rules.specs.Words.{same, allOf}
-use Rattle.rules.specs.Tries.{full, restored, lowered}
+use Rattle.rules.specs.Tries.{full, restored}
 use Rattle.rules.specs.State.{Which, numberOf, marked, mode, noCredential, login, logins, withCredentials, withDirectory, withJournal, noJournal, credentialOf, withTries, withValue, withCurrent, withFolder, withLeft}
 use Rattle.rules.specs.State as state
 use Rattle.rules.specs.Sound.{isKey, sound, soundValue}
@@ -40,13 +40,13 @@ use Rattle.rules.specs.Record.{recordFound}
 use Rattle.rules.specs.Pins.{comparedAt}
 use Rattle.rules.specs.List.{listed}
 use Rattle.rules.specs.Response.{fetches}
-use Rattle.rules.specs.Step.{did, touched, outcome, Stepped, settled, atOnce, waits, delivered, fetched, step}
+use Rattle.rules.specs.Step.{did, touched, outcome, Stepped, settled, atOnce, delivered, fetched, step}
 use Rattle.rules.specs.Calls.{cleared}
 use Rattle.rules.proofs.Good.{Good, sound-good, numbered, pin-short}
 use Rattle.rules.proofs.Targets.{place-run}
 use Rattle.demands.proofs.Rows.{Fair, FairTouch}
 use Rattle.demands.proofs.Delivered.{fetched-by}
-use Rattle.power.specs.Store.{memory, Store, triesLeft, entryByte, fileCount, folderByte, folderCount, areaByte, alter, withByte, withFolderByte, alterFile, put, puts, row}
+use Rattle.power.specs.Store.{memory, Store, triesLeft, entryByte, fileCount, folderByte, folderCount, areaByte, withByte, withFolderByte, alterFile, put, puts, row}
 use Rattle.power.specs.Journal.{credential, entry, valueBytes, knownBytes, withValueOf, withKnown, redo, journaled}
 use Rattle.power.specs.Plan.{isFull, deedStores, touchStores, idle, Act, act, planned, actOf, storesFor, storesOf}
 use Rattle.power.proofs.Alter.{alter-twice, alter-set, alter-as}
@@ -79,12 +79,6 @@ value-sixteen c g w = eqb-true _ _ (both (eqb (length (x .value)) 16) _ (g .cred
 
 -- ---- the card after the stores of each kind
 module _ (c : Card) (w : Which) where
-  -- other tries left
-  pub tries-put : (t : ℕ) (b : Bool)
-      → cleared (withCredentials c (alter (withLeft t) (c .credentials) (numberOf w)))
-      ≡ cleared (state.withLogin w c (record { left = t; limit = login w c .tries .limit }) b)
-  tries-put t b = ap (λ (l : List Credential). cleared (withCredentials c l)) (alter-set (withLeft t) (c .credentials) (numberOf w) noCredential)
-
   -- a new value
   pub value-put : (d : List ℕ) → length d ≤ 16 → redo (credential (numberOf w)) (valueBytes d) c ≡ withValue w c d
   value-put d short =

@@ -1,14 +1,12 @@
 -- A cut after any of the stores of a command, or before the first, and then a recovery: what R-10 allows.
 use Prim.Native.Nat.{ℕ, _+_, _-_, _≤_, _<_}
-use mathlib.Core.Bool.{Bool, true, false, cond, _&&_}
+use mathlib.Core.Bool.{Bool, true, false, cond}
 use mathlib.Core.List.{List, [], _∷_, _++_}
 use mathlib.Core.Logic.{_⊎_}
 use mathlib.Core.Path.{_≡_}
 use lib.ListN.{length, take, set}
-use lib.Dec.{leb}
 use Rattle.files.specs.declared.File.{File}
 use Rattle.files.specs.declared.Folder.{Folder}
-use Rattle.files.specs.Words.{isZero}
 use Rattle.files.specs.Part.{splice, zeros}
 use Rattle.files.specs.Types.{isVariable, count, size}
 use Rattle.files.specs.Directory.{start, end, extent, isPlace}
@@ -29,7 +27,6 @@ use Rattle.demands.specs.Held.{labelOf}
 use Rattle.power.specs.Store.{Memory, memory, puts}
 use Rattle.power.specs.Plan.{lowers, Work, idle, files, credentials, Act, actOf, storesOf, touchStores}
 use Rattle.power.specs.Recovery.{tidied, lost, recover}
-use Rattle.cuts.specs.Ledger.{journalBytes, changeStores}
 
 -- the lasting bytes that the cut leaves
 abbrev pub cutAt : Card → List ℕ → List ℕ → ℕ → Memory
@@ -124,19 +121,6 @@ heard c (challenges n) = c
 -- a code is presented first, and what the command does comes after all of that
 abbrev pub Allowed : Card → List ℕ → Act → Card → List ℕ → Type 0
 Allowed c area a x y = (AllowedTouch c (a .code) x × (y ≡ area)) ⊎ AllowedWork (heard c (a .code)) area (a .work) x y
-
--- which of these it is, by the number of stores: the first lowers the tries, the second restores them; a new PIN is whole from the store on that comes after
--- the 17 bytes in the journal, and a change has 53 stores in all, after which a reload restores the tries
-abbrev pub cutTouch : Card → Touch → ℕ → Card
-cutTouch c nothing n = c
-cutTouch c (presents w value given) n =
-    cond (isZero n) c
-    (cond (leb 2 n && same value given) (withLogin w c (restored (login w c .tries)) true) (withLogin w c (lowered (login w c .tries)) false))
-cutTouch c (changes w d) n = cond (leb n journalBytes) c (withValue w c d)
-cutTouch c (reloads w d) n =
-    cond (leb n journalBytes) c
-    (cond (leb n changeStores) (withValue w c d) (withLogin w (withValue w c d) (restored (login w c .tries)) false))
-cutTouch c (challenges k) n = c
 
 -- recovery is served, whatever session and waiting bytes the cut left; a sound card results, on which the reset that follows changes nothing; and it is one
 -- of those that are allowed

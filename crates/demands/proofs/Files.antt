@@ -36,7 +36,7 @@ use Rattle.rules.specs.Record.{recordFound}
 use Rattle.rules.specs.Pins.{comparedAt, compared}
 use Rattle.rules.specs.List.{Role, role}
 use Rattle.rules.specs.Step.{did, touched, outcome}
-use Rattle.rules.proofs.Good.{Good, sound-good}
+use Rattle.rules.proofs.Good.{sound-good}
 use Rattle.demands.specs.Ledger.{Kind, right as rightly}
 use Rattle.demands.proofs.Rows.{Entitled, FairShow, FairStore, codeIn, Fair, by-rule}
 use Rattle.demands.proofs.Addressed.{writesTo, readsFrom}
@@ -73,9 +73,6 @@ unfolding comparedAt
 compare-by P w c agrees f = split P agrees (λ e. f _ _ refl refl) (λ e. f _ _ refl refl)
 
 module _ (y : Kind) (c : Card) (area : List ℕ) (h : sound c area ≡ true) (place : ℕ) (some : 1 ≤ place) (low : place ≤ c .directory .count) (k : Command) where
-  abbrev g : Good c
-  g = sound-good c area h
-
   abbrev fs : List File
   fs = c .directory .files
 

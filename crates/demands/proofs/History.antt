@@ -13,7 +13,7 @@ use Rattle.files.specs.declared.File.{File}
 use Rattle.files.specs.declared.Directory.{Directory}
 use Rattle.files.specs.declared.Located.{Located}
 use Rattle.files.specs.State.{emptied, blankFolder}
-use Rattle.files.specs.Part.{part, over, zeros, splice}
+use Rattle.files.specs.Part.{part, zeros, splice}
 use Rattle.files.specs.Types.{size}
 use Rattle.files.specs.Rights.{asksCode}
 use Rattle.files.specs.Directory.{fileAt, start, extent, isPlace, inArea}
@@ -39,7 +39,7 @@ use Rattle.rules.specs.Select.{selected}
 use Rattle.rules.specs.Create.{creationRight}
 use Rattle.rules.specs.List.{listed, isGetResponse, Role, role, rule}
 use Rattle.rules.specs.Response.{waitSw}
-use Rattle.rules.specs.Step.{did, touched, checks, effectOf, kept, swOf, ruled, outcome, Stepped, settled, atOnce, waits, step}
+use Rattle.rules.specs.Step.{did, touched, checks, effectOf, kept, swOf, ruled, outcome, Stepped, settled, atOnce, step}
 use Rattle.rules.specs.Calls.{answer, served, command}
 use Rattle.rules.proofs.Good.{sound-good, sound-parted}
 use Rattle.rules.proofs.Targets.{place-named}

@@ -4,10 +4,8 @@ use mathlib.Core.List.{List, [], _∷_, append-assoc}
 use mathlib.Core.Path.{_≡_, refl, sym, ap, _∙_}
 use lib.ListN.{length, take, drop, set}
 use lib.Seq.{sets, sets-eq}
-use Rattle.files.specs.declared.File.{File}
-use Rattle.files.specs.declared.Folder.{Folder}
 use Rattle.files.specs.Part.{splice}
-use Rattle.files.specs.State.{withFiles, withFolders, fileBytes, folderBytes}
+use Rattle.files.specs.State.{withFiles, withFolders}
 use Rattle.rules.specs.declared.Credential.{Credential}
 use Rattle.rules.specs.declared.Card.{Card}
 use Rattle.rules.specs.State.{withCredentials, withDirectory, withJournal, journalOf, withBytes}
@@ -73,10 +71,3 @@ pub row-folder : (place i : ℕ) (bs : List ℕ) (m : Memory)
 row-folder place i bs m =
     row-over (folderByte place) withFolderByte place (λ c. c .directory .folders) (λ c xs. withDirectory c (withFolders (c .directory) xs))
     (λ j b n. refl) (λ c. refl) (λ c xs. refl) (λ c xs ys. refl) i bs m
-
--- all of it
-pub entry-over : (g f : File) → overBytes withByte 0 (fileBytes g) f ≡ g
-entry-over g f = refl
-
-pub folder-over : (y x : Folder) → overBytes withFolderByte 0 (folderBytes y) x ≡ y
-folder-over y x = refl

@@ -60,12 +60,9 @@ joined (r ∷ rs) = r ++ joined rs
 abbrev pub list : ℕ → Card → List ℕ → List ℕ
 list n c bytes = joined (records (fileOf c n) (extent (c .directory) n bytes))
 
--- tries left and value of the user PIN; tries left of the transport key
+-- tries left and value of the user PIN
 abbrev pub pin : Card → List ℕ
 pin c = credential c 2 .tries .left ∷ valueOf (credential c 2)
-
-abbrev pub key : Card → List ℕ
-key c = credential c 3 .tries .left ∷ []
 
 -- how many files and directories
 abbrev pub counts : Card → List ℕ

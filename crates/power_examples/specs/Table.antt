@@ -3,7 +3,7 @@ use Prim.Native.Nat.{ℕ, suc}
 use mathlib.Core.Bool.{Bool, true, false, _&&_}
 use mathlib.Core.List.{List, [], _∷_}
 use lib.Dec.{eqb}
-use lib.ListN.{length, take}
+use lib.ListN.{take}
 use Rattle.rules.specs.declared.Card.{Card}
 use Rattle.power.specs.Store.{Store, memory, puts}
 use Rattle.power.specs.Plan.{storesOf}

@@ -18,7 +18,7 @@ use Rattle.rules.specs.State.{Which, mode, device, admin, user, transport, numb
 use Rattle.rules.specs.Sound.{digit, goodLength, goodPin, goodValue, sound}
 use Rattle.rules.specs.Binary.{opens}
 use Rattle.rules.specs.Step.{step}
-use Rattle.rules.specs.Calls.{Done, refused, served, Order, goodGiven, goodOrder, command, issue, reset}
+use Rattle.rules.specs.Calls.{refused, served, Order, goodGiven, goodOrder, command, issue, reset}
 use Rattle.rules.proofs.Good.{for-which, filled-back, at-which, zero-at, waits-back}
 use Rattle.demands.specs.Ledger.{isHeld, opensRight, page, ledger}
 use Rattle.demands.specs.Run.{after}
@@ -36,9 +36,6 @@ tests R A number next false to back f g = (λ o. f refl, λ a. clash false (back
 
 -- ---- a command
 module _ (c : Card) (area cmd random reply : List ℕ) where
-  abbrev d : Done
-  d = command c area cmd random reply
-
   turned : (n : ℕ) → TurnedAway c area reply (refused n c area reply) n
   turned n = record { outcome-is = refl; card-is = refl; count-is = refl; area-is = refl; reply-is = refl }
 

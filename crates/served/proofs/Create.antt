@@ -306,10 +306,6 @@ module _ (c : Card) (area cmd random : List ℕ) (r : Runs c area cmd random Cre
   unfolding fileGiven
   given-is = refl
 
-  folder-is : folderGiven (framed cmd) ≡ x
-  unfolding folderGiven
-  folder-is = refl
-
   module _ (e : word CreateFile c area (framed cmd) ≡ 0x9000) where
     done : Settled c area (did c (createDeed c (framed cmd))) s
     unfolding effectOf rule

@@ -202,9 +202,6 @@ module _ (c : Card) (area cmd random : List ℕ) (r : Runs c area cmd random Ver
   abbrev s : Stepped
   s = step c area cmd random
 
-  abbrev w : ℕ
-  w = word Verify c area (framed cmd)
-
   verify-word : word Verify c area (framed cmd) ≡ first (verifyChecks (logins c) (framed cmd))
   unfolding checks rule
   verify-word = refl

@@ -96,9 +96,6 @@ module _ (c : Card) (area other random cmd : List ℕ) (s t : Stepped) (h : soun
   p-same : {N M : Type 0} {n sw : ℕ} → Ask (λ w. Refused c area w s) (k .p1 * 256 + k .p2 ≡ n) sw N → Ask (λ w. Refused c other w t) (k .p1 * 256 + k .p2 ≡ n) sw M → (N → M → R) → R
   p-same {n = n} p q f = ask-same (eqb (k .p1 * 256 + k .p2) n) (eqb-true _ _) (eq-eqb _ _) p q (λ a. f)
 
-  case-same : {N M : Type 0} {n sw : ℕ} → Ask (λ w. Refused c area w s) (k .case ≡ n) sw N → Ask (λ w. Refused c other w t) (k .case ≡ n) sw M → (k .case ≡ n → N → M → R) → R
-  case-same {n = n} p q f = ask-same (eqb (k .case) n) (eqb-true _ _) (eq-eqb _ _) p q f
-
   -- a file's right, and the code that it asks
   right-same : {N M : Type 0} (right : ℕ) → answers.askRight c area random cmd s right N → answers.askRight c other random cmd t right M
       → (Opens (heldOn c) right → (AsksCode right → WithCode cmd) → N → M → R) → R

@@ -145,9 +145,6 @@ none-held c area cmd random h la l =
 module _ {c : Card} {area cmd random : List ℕ} {i : Ins} (r : Sends c area cmd random i) (f : Command → List ℕ) (t : Card → Located → Command → List ℕ)
     (d : Card → Located → Command → Deed) (is : rule i ≡ ofContents f t d) (to-front : InForm cmd → first (f (framed cmd)) ≡ 0x9000)
     (from-front : first (f (framed cmd)) ≡ 0x9000 → InForm cmd) (long : InForm cmd → WithCode cmd → 4 ≤ lcSent cmd) where
-  abbrev k : Command
-  k = framed cmd
-
   abbrev h : sound c area ≡ true
   h = r .card-sound
 
@@ -199,9 +196,6 @@ module _ {c : Card} {area cmd random : List ℕ} {i : Ins} (r : Sends c area cmd
 
   after-right : Presents c cmd → CodeAgrees c cmd → afterCode (f (framed cmd)) c (framed cmd) ≡ withKeyTries c (limitNo c 3)
   after-right p e = compared-left r f t d is true (p .with-code) (all-ready p) (rightly p e)
-
-  after-wrong : Presents c cmd → (CodeAgrees c cmd → ⊥) → afterCode (f (framed cmd)) c (framed cmd) ≡ withKeyTries c (leftNo c 3 - 1)
-  after-wrong p o = compared-left r f t d is false (p .with-code) (all-ready p) (wrongly p o)
 
   -- what is so of each card that may be left is so of the one that is
   by-after : (P : Card → Type 0) → P c → P (withKeyTries c (limitNo c 3)) → P (withKeyTries c (leftNo c 3 - 1)) → P (afterCode (f (framed cmd)) c (framed cmd))

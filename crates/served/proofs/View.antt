@@ -60,9 +60,6 @@ fixed-is f x e = sym (records-fixed f x e ∙ rw e)
 
 -- ---- records behind their length bytes
 module _ (used : ℕ) (x : List ℕ) (long : used ≤ length x) (m : ℕ) (w : Parts used x m) where
-  abbrev all : List ℕ
-  all = take used x
-
   -- the record that j others come before, in the used bytes
   noted : ℕ → List ℕ
   noted j = part (walk used x j + 1) (lengthAt x (walk used x j)) x
