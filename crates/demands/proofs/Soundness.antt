@@ -41,7 +41,7 @@ use Rattle.rules.specs.Calls.{Order, goodGiven, goodOrder, fresh, cleared}
 use Rattle.rules.proofs.Checks.{either}
 use Rattle.rules.proofs.Good.{Good, for-which, sound-good, sound-parted, sound-both, tried-full, tried-lowered, value-sound, sayable, said-short, placed, turned, entered, founded-good, tried-in, logged, valued, challenged, responded, waited, ended, made}
 use Rattle.rules.proofs.Targets.{place-named, place-run, some-lies, lies-there}
-use Rattle.demands.specs.Soundness.{Bytes, StepSound, StepArea, StepReply, CommandSound, CommandArea, CommandReply, CommandCount, CommandServed, ResetSound, ResetServed, IssueServed, IssueArea, BlankUnsound}
+use Rattle.demands.specs.Soundness.{Bytes, StepSound, StepArea, StepReply, CommandSound, CommandArea, CommandReply, CommandCount, ResetSound, IssueServed, IssueArea, BlankUnsound}
 use Rattle.demands.proofs.Calls.{called-by, reset-by, issued-by}
 use Rattle.demands.specs.Ledger.{Label}
 use Rattle.demands.proofs.Labels.{appended-label}
@@ -270,20 +270,11 @@ pub command-count : CommandCount
 command-count c area cmd random reply b =
     called-by (λ d. d .answer .n ≤ 258) c area cmd random reply (λ r a l s. step-reply c area cmd random s l b) (λ o n. omega arith)
 
-pub command-served : CommandServed
-command-served c area cmd random reply =
-    called-by (λ d. d .answer .outcome ≡ 0 → sound (d .answer .card) (d .area) ≡ true) c area cmd random reply
-    (λ r a l s z. step-sound c area cmd random s a l) (λ o n z. absurd (omega arith))
-
 cleared-sound : (c : Card) (area : List ℕ) → sound c area ≡ true → sound (cleared c) area ≡ true
 cleared-sound c area h = sound-both _ area (ended c (sound-good c area h)) (sound-parted c area h)
 
 pub reset-sound : ResetSound
 reset-sound c area h = reset-by (λ a. sound (a .card) area ≡ true) c area (λ z e. cleared-sound c area h) (λ o n. h)
-
-pub reset-served : ResetServed
-reset-served c area =
-    reset-by (λ a. a .outcome ≡ 0 → sound (a .card) area ≡ true) c area (λ z e q. cleared-sound c area e) (λ o n q. absurd (omega arith))
 
 -- all of the order's credentials, and its mode
 order-good : (o : Order) → goodOrder o ≡ true → (every (map (λ w. goodGiven (numberOf w) (o .given w)) whiches) ≡ true) × (goodMode (o .mode) ≡ true)
