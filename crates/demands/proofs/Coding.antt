@@ -27,7 +27,7 @@ use Rattle.rules.proofs.Checks.{holds}
 use Rattle.rules.proofs.Equal.{filled-behind}
 use Rattle.demands.specs.Ledger.{Kind, other, passes, presented, lcSent, codeCovers, codeSent, inBlocks, sum, cbc, codeOf, readFrame, writeFrame, codeAsks, codeKind}
 use Rattle.demands.specs.Follows.{CodeOfBytes}
-use Rattle.demands.proofs.Framing.{case-by-length}
+use Rattle.demands.proofs.Framing.{data-there}
 use Rattle.demands.proofs.Trees.{all-passed}
 
 -- what a read, update or append is to the transport key in the rules' words
@@ -74,17 +74,6 @@ code-of-bytes l ch cmd cla low = (
 )
 
 -- ---- case and Lc
--- in case 3 and 4 the data field is there
-data-there : (s : List ℕ) → 3 ≤ framed s .case → 5 + byte s 4 ≤ length s
-data-there s h =
-    let q = case-by-length s in
-    by-cases (decLt (length s) 4) (λ l. absurd (omega (arith, h, q .short l)))
-    (λ l. by-cases (ℕ-discrete (length s) 4) (λ e. absurd (omega (arith, h, q .four e)))
-    (λ n4. by-cases (ℕ-discrete (length s) 5) (λ e. absurd (omega (arith, h, q .five e)))
-    (λ n5. by-cases (ℕ-discrete (length s) (5 + byte s 4)) (λ e. omega (arith, e))
-    (λ a. by-cases (ℕ-discrete (length s) (6 + byte s 4)) (λ e. omega (arith, e))
-    (λ b. let six : 6 ≤ length s = omega (arith, l, n4, n5) in absurd (omega (arith, h, q .neither six a b)))))))
-
 module _ (cmd : List ℕ) (cla : eqb (byte cmd 0) 0x04 ≡ true) (there : 5 + byte cmd 4 ≤ length cmd) where
   given-long : length (framed cmd .given) ≡ byte cmd 4 - 4
   unfolding framed

@@ -1,5 +1,4 @@
 -- What should be served is served: statements about document 01's rules.
-pub mod Frames
 pub mod Left
 pub mod Answers
 pub mod One
