@@ -31,13 +31,13 @@ use Rattle.rules.specs.Calls.{cleared}
 use Rattle.rules.proofs.Good.{sound-good}
 use Rattle.rules.proofs.Targets.{place-named}
 use Rattle.demands.specs.Ledger.{Kind, ended, Label, Tag, Tree, labelGiven, sizeOf, turnedTo, grown, Ledger, page, tells, kind, kindIn, booked}
-use Rattle.demands.specs.Run.{world, Sound}
+use Rattle.demands.specs.Run.{world, SoundWorld}
 use Rattle.demands.specs.Held.{labelOf, tagOf}
 use Rattle.demands.proofs.Trees.{each-same}
 use Rattle.demands.proofs.Labels.{Matches, treeBy, label-size}
 use Rattle.demands.proofs.Rows.{Fair, FairTouch, kindOf}
 use Rattle.demands.proofs.Made.{deed-tree}
-use Rattle.demands.proofs.Follows.{Agree, full, act, tell-kind}
+use Rattle.demands.proofs.Credentials.{Agree, full, act, tell-kind}
 use Rattle.power.specs.Store.{Memory, memory, Store, puts}
 use Rattle.power.specs.Plan.{Work, idle, files, credentials, Act, planned, actOf, workStores, storesFor, deedStores, presentStores, touchStores}
 use Rattle.power.specs.Plan as plan
@@ -126,7 +126,7 @@ module _ (v : Card) (area : List ℕ) (h : sound v area ≡ true) (size-is : len
   none-made (makes f) k q n = absurd k
   none-made (founds x) k q n = absurd k
 
-module _ (c : Card) (area : List ℕ) (live : Sound (world c area)) (l : Ledger) (agree : Agree c l) (cmd : List ℕ) where
+module _ (c : Card) (area : List ℕ) (live : SoundWorld (world c area)) (l : Ledger) (agree : Agree c l) (cmd : List ℕ) where
   abbrev h : sound c area ≡ true
   h = live .sound-card
 

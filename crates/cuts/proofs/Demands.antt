@@ -22,7 +22,7 @@ use Rattle.rules.proofs.Good.{sound-good, responded, waits-back}
 use Rattle.demands.specs.Ledger.{sent, resets, Kind, other, right, wrong, changed, reloaded, ended, Page, valueSet, wrongSince, isHeld, total, isRight, isReload, Label, Tree, turnedTo, grown, Ledger, page, tells, kindIn, booked, opened, servable, next}
 use Rattle.demands.specs.Ledger as calls
 use Rattle.demands.specs.Run.{World}
-use Rattle.demands.specs.Follows.{limitOf, Asked}
+use Rattle.demands.specs.Credentials.{limitOf, Asked}
 use Rattle.demands.specs.Held.{IsFile, IsFolder, Within}
 use Rattle.demands.specs.Files.{Addresses, Stays}
 use Rattle.demands.specs.Directories.{Addressed}
@@ -220,7 +220,7 @@ left-after : (l : Ledger) (x : Happening) (w : Which) → left-in (page w l) (pa
 left-after l (call (sent cmd random reply)) w = go (servable random reply)
   where
     go : (b : Bool)
-        → left-in (page w l) (page w (cond b (calls.entered l cmd random) l)) ≡ left-in (page w l) (booked (cond b (kindIn l cmd w) other) (page w l))
+        → left-in (page w l) (page w (cond b (calls.withCommand l cmd random) l)) ≡ left-in (page w l) (booked (cond b (kindIn l cmd w) other) (page w l))
     go true = refl
     go false = sym (other-left (page w l))
 left-after l (call resets) w = refl

@@ -32,7 +32,7 @@ use Rattle.rules.specs.Calls.{cleared}
 use Rattle.rules.proofs.Good.{sound-good}
 use Rattle.rules.proofs.Targets.{place-named}
 use Rattle.demands.specs.Ledger.{sent, resets, Ledger, servable}
-use Rattle.demands.specs.Run.{World, world, Sound}
+use Rattle.demands.specs.Run.{World, world, SoundWorld}
 use Rattle.demands.specs.Held.{IsFile}
 use Rattle.demands.specs.Files.{Stays, NoneMade}
 use Rattle.demands.proofs.Live.{command-is, reset-is}
@@ -40,7 +40,7 @@ use Rattle.demands.proofs.View.{bytes-are}
 use Rattle.demands.proofs.Rows.{codeIn, Fair, FairTouch}
 use Rattle.demands.proofs.Files.{By, here}
 use Rattle.demands.proofs.Addressed.{writesTo, writes-to}
-use Rattle.demands.proofs.Follows.{Agree}
+use Rattle.demands.proofs.Credentials.{Agree}
 use Rattle.demands.proofs.History.{right-told, code-told, call-alters, Grew, grew, deed-counts, step-makes}
 use Rattle.power.specs.Plan.{idle, files, credentials, Act, act, planned, actOf}
 use Rattle.power.specs.Recovery.{tidied}
@@ -78,7 +78,7 @@ touch-same c (reloads w d) x a =
     ⊎-elim (λ e. ap (λ (y : Card). y .directory) e) (⊎-elim (λ e. ap (λ (y : Card). y .directory) e) (λ e. ap (λ (y : Card). y .directory) e)) a
 touch-same c (challenges n) x a = ap (λ (y : Card). y .directory) a
 
-module _ (c : Card) (area : List ℕ) (live : Sound (world c area)) (cmd : List ℕ) where
+module _ (c : Card) (area : List ℕ) (live : SoundWorld (world c area)) (cmd : List ℕ) where
   abbrev h : sound c area ≡ true
   h = live .sound-card
 
@@ -246,7 +246,7 @@ altered o area xs served x n here = go x
     w : World
     w = after o area xs
 
-    live : Sound w
+    live : SoundWorld w
     live = live-after o area xs served
 
     agree : Agree (w .card) (ledger o xs)
@@ -269,7 +269,7 @@ files-created o area xs served x = go x
     w : World
     w = after o area xs
 
-    live : Sound w
+    live : SoundWorld w
     live = live-after o area xs served
 
     agree : Agree (w .card) (ledger o xs)

@@ -16,7 +16,7 @@ use Rattle.rules.proofs.Good.{zero-at}
 use Rattle.demands.specs.Ledger.{Kind, other, right, wrong, changed, reloaded, ended, presented, about}
 use Rattle.demands.proofs.Presented.{presented-is}
 use Rattle.demands.proofs.Rows.{kindOf}
-use Rattle.demands.proofs.Follows.{Full, act, compare, change, reload}
+use Rattle.demands.proofs.Credentials.{Full, act, compare, change, reload}
 use Rattle.cuts.specs.Ledger.{journalBytes, changeStores, cutKind}
 use Rattle.cuts.proofs.Touches.{cutTouch}
 

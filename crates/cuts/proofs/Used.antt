@@ -14,10 +14,10 @@ use Rattle.rules.specs.Calls.{Order, Done, replySize, randomSize, refused, serv
 use Rattle.rules.proofs.Good.{sound-good}
 use Rattle.demands.specs.Ledger.{resets, Ledger, servable, next}
 use Rattle.demands.specs.Ledger as calls
-use Rattle.demands.specs.Run.{World, world, Sound, Served}
+use Rattle.demands.specs.Run.{World, world, SoundWorld, Served}
 use Rattle.demands.specs.Run as calls-run
 use Rattle.demands.proofs.Live.{call-live, after-live, issue-fresh, command-served, reset-is}
-use Rattle.demands.proofs.Follows.{Agree, call-agrees, fresh-agrees}
+use Rattle.demands.proofs.Credentials.{Agree, call-agrees, fresh-agrees}
 use Rattle.power.specs.Store.{Memory, memory, Store, puts}
 use Rattle.power.specs.Plan.{storesOf}
 use Rattle.power.specs.Recovery.{tidied, lost}
@@ -28,7 +28,7 @@ use Rattle.cuts.specs.Run.{storesOfCall, leftBy, restarted, happened, ru
 use Rattle.cuts.proofs.Cut.{cut-recovers}
 use Rattle.cuts.proofs.Agrees.{cut-agrees}
 
-module _ (c : Card) (area : List ℕ) (live : Sound (world c area)) (cmd random reply : List ℕ) where
+module _ (c : Card) (area : List ℕ) (live : SoundWorld (world c area)) (cmd random reply : List ℕ) where
   -- a call is served where its own arguments are good
   stores-are : storesOfCall (world c area) cmd random reply ≡ cond (servable random reply) (storesOf c area cmd) []
   unfolding storesOfCall
@@ -65,7 +65,7 @@ module _ (c : Card) (area : List ℕ) (live : Sound (world c area)) (cmd random 
       ∙ ap (λ (a : Answer). world (reset (a .card) (m .area) .card) (m .area)) (k .served s r)
       ∙ ap (λ (a : Answer). world (a .card) (m .area)) (k .reset-same)
 
-  pub cut-live : (n : ℕ) → Sound (world (tidied (cutAt c area cmd n .card)) (cutAt c area cmd n .area))
+  pub cut-live : (n : ℕ) → SoundWorld (world (tidied (cutAt c area cmd n .card)) (cutAt c area cmd n .area))
   cut-live n =
       let k = cut-recovers c area cmd n (live .sound-card) (live .size-is) in
       record { sound-card = k .sound-card; size-is = k .size-is }
@@ -80,32 +80,32 @@ module _ (c : Card) (area : List ℕ) (live : Sound (world c area)) (cmd random 
           let g = sound-good c area (live .sound-card) in
           subst (λ (x : Card). Agree x (next l resets)) (reset-is c area live ∙ sym (tidied-sound c (g .journal) (g .directory))) (call-agrees (world c area) l resets live a)
 
-pub happened-live : (w : World) (x : Happening) → Sound w → Sound (happened w x)
+pub happened-live : (w : World) (x : Happening) → SoundWorld w → SoundWorld (happened w x)
 happened-live w (call e) v = call-live w e v
 happened-live w (cut cmd random reply n s r) v = rw (cut-is (w .card) (w .area) v cmd random reply n s r) (cut-live (w .card) (w .area) v cmd random reply (reached (w .card) (w .area) v cmd random reply n))
 
-pub happened-agrees : (w : World) (l : Ledger) (x : Happening) → Sound w → Agree (w .card) l → Agree (happened w x .card) (entered l x)
+pub happened-agrees : (w : World) (l : Ledger) (x : Happening) → SoundWorld w → Agree (w .card) l → Agree (happened w x .card) (entered l x)
 happened-agrees w l (call e) v h = call-agrees w l e v h
 happened-agrees w l (cut cmd random reply n s r) v h =
     subst (λ (u : World). Agree (u .card) (entered l (cut cmd random reply n s r))) (sym (cut-is (w .card) (w .area) v cmd random reply n s r))
     (reached-agrees (w .card) (w .area) v cmd random reply l h n)
 
-run-live : (w : World) (xs : List Happening) → Sound w → Sound (run w xs)
+run-live : (w : World) (xs : List Happening) → SoundWorld w → SoundWorld (run w xs)
 unfolding run
 run-live w [] v = v
 run-live w (x ∷ xs) v = run-live (happened w x) xs (happened-live w x v)
 
-run-agrees : (w : World) (l : Ledger) (xs : List Happening) → Sound w → Agree (w .card) l → Agree (run w xs .card) (tell l xs)
+run-agrees : (w : World) (l : Ledger) (xs : List Happening) → SoundWorld w → Agree (w .card) l → Agree (run w xs .card) (tell l xs)
 unfolding run tell
 run-agrees w l [] v h = h
 run-agrees w l (x ∷ xs) v h = run-agrees (happened w x) (entered l x) xs (happened-live w x v) (happened-agrees w l x v h)
 
 -- what a served issue leaves
-issued-live : (o : Order) (area : List ℕ) → Served o area → Sound (world (issue o area .answer .card) (issue o area .area))
+issued-live : (o : Order) (area : List ℕ) → Served o area → SoundWorld (world (issue o area .answer .card) (issue o area .area))
 unfolding calls-run.after calls-run.run
 issued-live o area h = after-live o area [] h
 
-pub live-after : (o : Order) (area : List ℕ) (xs : List Happening) → Served o area → Sound (after o area xs)
+pub live-after : (o : Order) (area : List ℕ) (xs : List Happening) → Served o area → SoundWorld (after o area xs)
 unfolding after
 live-after o area xs h = run-live _ xs (issued-live o area h)
 

@@ -9,10 +9,10 @@ use Rattle.rules.specs.Calls.{Order, command}
 use Rattle.rules.specs.declared.Card.{Card}
 use Rattle.demands.specs.Ledger.{sent, resets, Kind, other, right, reloaded, ended, valueSet, isHeld, total, isRight, isWrong, isReload, Ledger, page, kindIn, servable, labelIn}
 use Rattle.demands.specs.Run.{World, Served}
-use Rattle.demands.specs.Follows.{Agrees, limitOf}
+use Rattle.demands.specs.Credentials.{Agrees, limitOf}
 use Rattle.demands.specs.Held.{IsFile, IsFolder, leftNo}
-use Rattle.demands.specs.Files.{Labelled, Remains, Written, Writes, Read, Stays, AlikeBut, SameBut, Made, MadeDirectory, NoneMade, Makes}
-use Rattle.demands.specs.Directories.{Placed, DirectoryRemains, Addressed}
+use Rattle.demands.specs.Files.{Labelled, Remains, WrittenByRight, Writes, ReadByRight, Stays, AlikeBut, SameBut, Made, MadeFolder, NoneMade, Makes}
+use Rattle.demands.specs.Directories.{Placed, FolderRemains, Addressed}
 use Rattle.demands.specs.Response.{PutBy}
 use Rattle.cuts.specs.Ledger.{Happening, call, cut, cutKind, ledger}
 use Rattle.cuts.specs.Run.{happened, after}
@@ -87,12 +87,12 @@ FilesRemain =
 abbrev pub DirectoriesRemain : Type 0
 DirectoriesRemain =
     (o : Order) (area : List ℕ) (xs more : List Happening) → Served o area → (n : ℕ) → IsFolder (after o area xs .card) n
-    → DirectoryRemains (after o area xs .card) (after o area (xs ++ more) .card) n
+    → FolderRemains (after o area xs .card) (after o area (xs ++ more) .card) n
 
 -- what writes a file: a command, whole or cut, that addresses it by right, with a right code where it asks for one
 abbrev pub WritesIt : Card → Ledger → Happening → ℕ → Type 0
 WritesIt c l (call e) n = Writes c l e n
-WritesIt c l (cut cmd random reply m s r) n = Written c l cmd n
+WritesIt c l (cut cmd random reply m s r) n = WrittenByRight c l cmd n
 
 abbrev pub Altered : Type 0
 Altered =
@@ -102,7 +102,7 @@ Altered =
 -- there are as many files and directories as before, or one more, whole
 abbrev pub MakesIt : Ledger → World → World → Happening → Type 0
 MakesIt l w v (call e) = Makes l w v e
-MakesIt l w v (cut cmd random reply n s r) = Made l w v cmd ⊎ MadeDirectory l w v cmd
+MakesIt l w v (cut cmd random reply n s r) = Made l w v cmd ⊎ MadeFolder l w v cmd
 
 abbrev pub Created : Type 0
 Created =
@@ -116,7 +116,7 @@ Shown =
     → AlikeBut (after o area xs .card) n (after o area xs .area) other
     → SameBut n (command (after o area xs .card) (after o area xs .area) cmd random reply)
     (command (after o area xs .card) other cmd random reply)
-    ⊎ Read (after o area xs .card) (ledger o xs) cmd n
+    ⊎ ReadByRight (after o area xs .card) (ledger o xs) cmd n
 
 -- the file that a read, update or append addresses lies in the ledger's current directory, so that neither a command nor a cut reaches another firm's files
 abbrev pub AddressedWithin : Type 0

@@ -9,7 +9,7 @@ use Rattle.rules.specs.declared.Response.{Response}
 use Rattle.rules.specs.Frame.{Command, framed}
 use Rattle.rules.specs.List.{listed, role}
 use Rattle.rules.specs.Calls.{Order}
-use Rattle.demands.specs.Ledger.{Event, resets, Kind, other, right, wrong, changed, reloaded, ended, Tree, labelGiven, sizeOf, asksDirectory, turnedTo, grown, Ledger, tells, booked, kindIn, servable, next, opened}
+use Rattle.demands.specs.Ledger.{Event, resets, Kind, other, right, wrong, changed, reloaded, ended, Tree, labelGiven, sizeOf, asksFolder, turnedTo, grown, Ledger, tells, booked, kindIn, servable, next, opened}
 
 -- a call, or a command that is cut after so many of its stores. A cut ends with a recovery and a reset; session and waiting bytes are lost, and are any until
 -- then
@@ -37,7 +37,7 @@ cutKind n ended = ended
 
 -- a file is there once its last store is: its bytes, twelve of its entry, and the number of files; a directory after three bytes and the number of directories
 abbrev pub makeStores : ℕ → Command → ℕ
-makeStores current k = let x = labelGiven current k in cond (asksDirectory x) 4 (sizeOf x + 13)
+makeStores current k = let x = labelGiven current k in cond (asksFolder x) 4 (sizeOf x + 13)
 
 -- and a cut returns to the root
 unfoldable pub cutTree : ℕ → Command → Tree → Tree → Tree

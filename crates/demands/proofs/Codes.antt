@@ -31,14 +31,14 @@ use Rattle.rules.specs.Step.{checksOf, keptBy, effectBy, checks, effectOf, kept
 use Rattle.rules.proofs.Checks.{passed}
 use Rattle.rules.proofs.Good.{sound-good}
 use Rattle.demands.specs.Framing.{NamedBy}
-use Rattle.demands.specs.Ledger.{Kind, other, right, wrong, changed, reloaded, ended, isRight, isWrong, passes, presented, response, pinOf, presentAsks, keyAsks, changeAsks, reloadAsks, kind}
+use Rattle.demands.specs.Ledger.{Kind, other, right, wrong, changed, reloaded, ended, isRight, isWrong, passes, presented, cryptogramOf, pinOf, presentAsks, keyAsks, changeAsks, reloadAsks, kind}
 use Rattle.demands.specs.Held.{leftNo}
 use Rattle.demands.specs.Codes.{kindOn, Counted, CodeCounted, OnlyTries, Untouched, RefusedAtCode}
 use Rattle.demands.proofs.Framing.{listed-by-bytes, response-named}
 use Rattle.demands.proofs.Presented.{presented-is}
 use Rattle.demands.proofs.Rows.{ruledBy, kindBy, code-right, try-left, kind-same, kind-by}
 use Rattle.demands.proofs.Delivered.{fetched-by, step-by}
-use Rattle.demands.proofs.Follows.{act, outcome-login}
+use Rattle.demands.proofs.Credentials.{act, outcome-login}
 use Rattle.demands.proofs.Asked.{not-about, not-pin}
 use Rattle.demands.proofs.Bound.{KeyKind, fair-kind}
 
@@ -214,7 +214,7 @@ only-codes Verify l ch cmd =
     let k = framed cmd in
     inl (not-about (passes (presentAsks (l (pinOf k)) k) k) (pinOf k) (presented (l (pinOf k) .value) (k .given)) (not-pin (eqb (k .p2) 0x00)))
 only-codes Authenticate l ch cmd =
-    let k = framed cmd in inl (not-about (passes (keyAsks (l device) ch k) k) device (presented (response (l device .value) ch) (k .given)) refl)
+    let k = framed cmd in inl (not-about (passes (keyAsks (l device) ch k) k) device (presented (cryptogramOf (l device .value) ch) (k .given)) refl)
 only-codes ChangePin l ch cmd =
     let k = framed cmd in inl (not-about (passes (changeAsks (l (pinOf k)) k) k) (pinOf k) (changed (k .given)) (not-pin (eqb (k .p2) 0x00)))
 only-codes ReloadPin l ch cmd = let k = framed cmd in inl (not-about (passes (reloadAsks (l admin) k) k) user (reloaded (k .given)) refl)

@@ -26,7 +26,7 @@ use Rattle.rules.specs.Code.{expected}
 use Rattle.rules.proofs.Checks.{holds}
 use Rattle.rules.proofs.Equal.{filled-behind}
 use Rattle.demands.specs.Ledger.{Kind, other, passes, presented, lcSent, codeCovers, codeSent, inBlocks, sum, cbc, codeOf, readFrame, writeFrame, codeAsks, codeKind}
-use Rattle.demands.specs.Follows.{CodeOfBytes}
+use Rattle.demands.specs.Credentials.{CodeOfBytes}
 use Rattle.demands.proofs.Framing.{data-there}
 use Rattle.demands.proofs.Trees.{all-passed}
 

@@ -24,12 +24,12 @@ use Rattle.demands.specs.Ledger.{Event, sent, resets, Label, Tree, label
 use Rattle.demands.specs.Run.{World, called, run, Served, after}
 use Rattle.demands.specs.Files.{Addresses, Stays, Writes}
 use Rattle.demands.specs.Held.{IsFile, Within}
-use Rattle.demands.specs.Directories.{directoryFid, DirectoriesFollow, SelectFollows, LeadsThere, Leads, Addressed, AddressedWithin, OutOfReach, OthersOutOfReach, NoneLeads, Untouched, OnlyBehindSelect}
+use Rattle.demands.specs.Directories.{directoryFid, DirectoriesFollow, SelectFollows, LeadsThere, Leads, Addressed, AddressedWithin, OutOfReach, OthersOutOfReach, NoneLeads, StillOutOfReach, OnlyBehindSelect}
 use Rattle.demands.proofs.Framing.{select-by-bytes}
 use Rattle.demands.proofs.Trees.{tagged-low, tagged-named, tagged-high, select-moves, ledger-grown, current-moves}
 use Rattle.demands.proofs.Labels.{Matches, right-is}
 use Rattle.demands.proofs.Live.{after-live}
-use Rattle.demands.proofs.Follows.{follows}
+use Rattle.demands.proofs.Credentials.{follows}
 use Rattle.demands.proofs.History.{files-follow, select-told, altered, shown}
 
 pub directories-follow : DirectoriesFollow
@@ -159,7 +159,7 @@ module _ (o : Order) (area : List ℕ) (h : Served o area) (n : ℕ) where
 
   untouched : (more es : List Event) → IsFile (after o area es .card) n
       → (labelIn (ledger o es .tree .labels) n .within ≡ ledger o es .tree .current → ⊥)
-      → NoneLeads (ledger o es) more (labelIn (ledger o es .tree .labels) n .within) → Untouched o area es more n
+      → NoneLeads (ledger o es) more (labelIn (ledger o es .tree .labels) n .within) → StillOutOfReach o area es more n
   untouched [] es here far none = record {
     stays = rw (append-nil es) (record { there = here; file-is = refl; bytes-are = refl });
     out-of-reach = rw (append-nil es) (others-out-of-reach o area es h n here far);

@@ -38,7 +38,7 @@ use Rattle.rules.specs.Calls.{cleared}
 use Rattle.rules.proofs.Checks.{passing}
 use Rattle.rules.proofs.Good.{sound-good, sound-parted, sound-both, numbered, same-which, valued, filled-back}
 use Rattle.demands.specs.Ledger.{Kind, Event, sent, resets, other, right, wrong, isRight, passes, presented, about}
-use Rattle.demands.specs.Run.{World, world, Sound, called}
+use Rattle.demands.specs.Run.{World, world, SoundWorld, called}
 use Rattle.demands.specs.Held.{credentialNo}
 use Rattle.demands.specs.Codes.{kindOn}
 use Rattle.demands.specs.Outsider.{heard, AllButValue, SameVerdict, Guesser, NoneRight, Unguessed, OtherValue}
@@ -432,13 +432,13 @@ module _ (which : Which) (c : Card) (x : Credential) (t : x .tries ≡ credentia
         (record { cards = record { other = x; tries-are = t; card-is = refl }; area-is = refl }) refl cmd random at-once-alike
 
 -- all four are there
-there : (which : Which) (w : World) → Sound w → numberOf which < length (w .card .credentials)
+there : (which : Which) (w : World) → SoundWorld w → numberOf which < length (w .card .credentials)
 there which w s = rw (sound-good (w .card) (w .area) (s .sound-card) .all-there) (numbered which)
 
 module _ (which : Which) where
-  value-call : (w : World) (x : Credential) → x .tries ≡ credential (w .card) (numberOf which) .tries → (e : Event) → Sound w
+  value-call : (w : World) (x : Credential) → x .tries ≡ credential (w .card) (numberOf which) .tries → (e : Event) → SoundWorld w
       → let v = world (withCredential (w .card) (numberOf which) x) (w .area) in
-      Sound v → SameVerdict which w v e → (heard w e ≡ heard v e) × Paired which (called w e) (called v e)
+      SoundWorld v → SameVerdict which w v e → (heard w e ≡ heard v e) × Paired which (called w e) (called v e)
   value-call w x t (sent cmd random reply) lw lv q =
       let v = world (withCredential (w .card) (numberOf which) x) (w .area) in
       command-alike (Paired which) w v lw lv cmd random reply
@@ -449,10 +449,10 @@ module _ (which : Which) where
       reset-alike (Paired which) w v lw lv
       (record { cards = cleared-both which (w .card) (v .card) (record { other = x; tries-are = t; card-is = refl }); area-is = refl })
 
-  paired-call : (w v : World) (e : Event) → Sound w → Sound v → Paired which w v → SameVerdict which w v e
+  paired-call : (w v : World) (e : Event) → SoundWorld w → SoundWorld v → Paired which w v → SameVerdict which w v e
       → (heard w e ≡ heard v e) × Paired which (called w e) (called v e)
   paired-call w v e lw lv r =
-      subst (λ (y : World). Sound y → SameVerdict which w y e → (heard w e ≡ heard y e) × Paired which (called w e) (called y e))
+      subst (λ (y : World). SoundWorld y → SameVerdict which w y e → (heard w e ≡ heard y e) × Paired which (called w e) (called y e))
       (ap₂ world (sym (r .cards .card-is)) (r .area-is))
       (value-call w (r .cards .other) (r .cards .tries-are) e lw) lv
 
@@ -465,7 +465,7 @@ module _ (which : Which) where
       ∙ ap₂ (λ x y. withCredentials (withDirectory (withSession (withResponse c y) x) (d .directory)) (d .credentials)) s r
       ∙ ap (λ x. withCredentials (withDirectory (withSession (withResponse (withJournal c x) (d .response)) (d .session)) (d .directory)) (d .credentials)) j)
 
-  to-pair : (w v : World) → Sound w → Sound v → AllButValue which w v → Paired which w v
+  to-pair : (w v : World) → SoundWorld w → SoundWorld v → AllButValue which w v → Paired which w v
   to-pair w v lw lv r = record {
     cards = record {
       other = x;
@@ -495,7 +495,7 @@ module _ (which : Which) where
           (λ m h. by-cases (ℕ-discrete m n) (λ e. rw e (sym (getD-set-same xs n x noCredential (there which w lw))))
           (λ o. sym (r .others-are m o) ∙ sym (getD-set-other xs n m x noCredential o)))
 
-  from-pair : (w v : World) → Sound w → Paired which w v → AllButValue which w v
+  from-pair : (w v : World) → SoundWorld w → Paired which w v → AllButValue which w v
   from-pair w v lw r =
       subst (λ (y : World). AllButValue which w y) (ap₂ world (sym (r .cards .card-is)) (r .area-is))
       (record {
@@ -507,7 +507,7 @@ module _ (which : Which) where
         area-is = refl;
       })
 
-  one-value : (w v : World) (e : Event) → Sound w → Sound v → AllButValue which w v → SameVerdict which w v e
+  one-value : (w v : World) (e : Event) → SoundWorld w → SoundWorld v → AllButValue which w v → SameVerdict which w v e
       → (heard w e ≡ heard v e) × AllButValue which (called w e) (called v e)
   one-value w v e lw lv r q =
       let k = paired-call w v e lw lv (to-pair w v lw lv r) q in (k .0, from-pair (called w e) (called v e) (call-live w e lw) (k .1))

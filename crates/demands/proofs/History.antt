@@ -44,8 +44,8 @@ use Rattle.rules.specs.Calls.{answer, served, command}
 use Rattle.rules.proofs.Good.{sound-good, sound-parted}
 use Rattle.rules.proofs.Targets.{place-named}
 use Rattle.demands.specs.Ledger.{Event, sent, resets, Kind, right as rightly, kind, kindIn, isHeld, opensRight, Label, Tag, noLabel, labelGiven, tagGiven, sizeOf, labelIn, tagIn, Ledger, page, selectSw, servable, ledger, heldIn}
-use Rattle.demands.specs.Run.{World, world, Sound, called, after}
-use Rattle.demands.specs.Files.{Labelled, FilesFollow, RightCode, Written, Read, Writes, Stays, Altered, AlikeBut, SameBut, Shown, Made, MadeDirectory, NoneMade, Makes, Created}
+use Rattle.demands.specs.Run.{World, world, SoundWorld, called, after}
+use Rattle.demands.specs.Files.{Labelled, FilesFollow, RightCode, WrittenByRight, ReadByRight, Writes, Stays, Altered, AlikeBut, SameBut, Shown, Made, MadeFolder, NoneMade, Makes, Created}
 use Rattle.demands.specs.Held.{labelOf, Opens, AsksCode, MayCreate, IsFile, labelNo, tagNo}
 use Rattle.demands.specs.Framing.{NamedBy}
 use Rattle.demands.specs.Outsider.{Heard, AllButBytes}
@@ -57,7 +57,7 @@ use Rattle.demands.proofs.Delivered.{fetched-by, step-by}
 use Rattle.demands.proofs.Soundness.{leaves}
 use Rattle.demands.proofs.Live.{after-live, command-is, reset-is}
 use Rattle.demands.proofs.Pairs.{StepAlike, Waited, step-both, command-alike}
-use Rattle.demands.proofs.Follows.{Agree, follows}
+use Rattle.demands.proofs.Credentials.{Agree, follows}
 use Rattle.demands.proofs.Files.{By, Kept, Treats, compare-by, treats, treated-lengths}
 use Rattle.demands.proofs.Alike.{alike-splice, alike-part, AlikeIn, alike-in, alike-but}
 use Rattle.demands.proofs.Others.{found-same, sound-same}
@@ -75,7 +75,7 @@ module _ (c : Card) (l : Ledger) (agree : Agree c l) where
   opens-told right h = opens-by right (λ w e. held-told w (eq-eqb _ _ e)) (opens-asked c right h)
 
 -- the files of the card are those of the ledger
-module _ (c : Card) (area : List ℕ) (live : Sound (world c area)) (l : Ledger) (agree : Agree c l) where
+module _ (c : Card) (area : List ℕ) (live : SoundWorld (world c area)) (l : Ledger) (agree : Agree c l) where
   pub labels-told : Labelled c l
   labels-told = record {
     count-is = agree .tree-is .count-is;
@@ -110,7 +110,7 @@ bytes-waited n w v bytes r = record {
 }
 
 -- one served command
-module _ (c : Card) (area cmd random : List ℕ) (live : Sound (world c area)) (place : ℕ) (file-here : IsFile c place) where
+module _ (c : Card) (area cmd random : List ℕ) (live : SoundWorld (world c area)) (place : ℕ) (file-here : IsFile c place) where
   abbrev r : Role
   r = role (listed (framed cmd))
 
@@ -193,12 +193,12 @@ module _ (c : Card) (area cmd random : List ℕ) (live : Sound (world c area)) (
         step-both (AllButBytes place) (bytes-waited place) (world c area) (world c other)
         (record { there = file-here; card-is = refl; areas = alike-but c place area other alike }) refl cmd random (at-once-unseen a)
 
-module _ (c : Card) (area : List ℕ) (live : Sound (world c area)) (l : Ledger) (agree : Agree c l) where
+module _ (c : Card) (area : List ℕ) (live : SoundWorld (world c area)) (l : Ledger) (agree : Agree c l) where
   -- the next call, and a file
   pub call-alters : (e : Event) (n : ℕ) → IsFile c n → Stays (world c area) (called (world c area) e) n ⊎ Writes c l e n
   call-alters (sent cmd random reply) n file-here =
       rw (command-is c area live cmd random reply)
-      (split (λ v. Stays (world c area) v n ⊎ Written c l cmd n) (servable random reply)
+      (split (λ v. Stays (world c area) v n ⊎ WrittenByRight c l cmd n) (servable random reply)
       (λ q. ⊎-elim inl (λ b. inr (record {
         addressed = writes-to c (sound-good c area (live .sound-card)) (framed cmd) n (file-here .first) (b .0);
         by-right = right-told c area live l agree n file-here (λ x. x .write) (b .1);
@@ -210,10 +210,10 @@ module _ (c : Card) (area : List ℕ) (live : Sound (world c area)) (l : Ledger)
 
   -- the next command, on an area that differs in the file's bytes alone
   pub call-shows : (cmd random reply other : List ℕ) (n : ℕ) → IsFile c n → AlikeBut c n area other
-      → SameBut n (command c area cmd random reply) (command c other cmd random reply) ⊎ Read c l cmd n
+      → SameBut n (command c area cmd random reply) (command c other cmd random reply) ⊎ ReadByRight c l cmd n
   call-shows cmd random reply other n file-here alike =
       let near = alike-in c n area other alike in
-      let there : Sound (world c other) = record {
+      let there : SoundWorld (world c other) = record {
         sound-card = sound-same c area other n (live .sound-card) (here c area cmd random live n file-here) near;
         size-is = sym (alike .but-bytes .length-is) ∙ live .size-is;
       } in
@@ -245,7 +245,7 @@ record Quiet (area : List ℕ) (e : Effect) : Type 0 where
   empty : e .says ++ part (e .from) (e .shows) area ≡ []
 
 -- a SELECT is quiet, so its status word is that of its checks; and these ask of the ledger what they ask of the card
-module _ (c : Card) (area : List ℕ) (live : Sound (world c area)) (l : Ledger) (agree : Agree c l) (cmd random : List ℕ) (named : listed (framed cmd) ≡ Select) where
+module _ (c : Card) (area : List ℕ) (live : SoundWorld (world c area)) (l : Ledger) (agree : Agree c l) (cmd random : List ℕ) (named : listed (framed cmd) ≡ Select) where
   abbrev k : Command
   k = framed cmd
 
@@ -315,7 +315,7 @@ pub record NewDirectory (i : Ins) (c : Card) (k : Command) (e : Effect) : Type 0
 abbrev pub Counts : Ins → Card → List ℕ → Command → Effect → Type 0
 Counts i c area k e = NoneMade (world c area) (world (e .card) area) ⊎ (New i c area k e ⊎ NewDirectory i c k e)
 
-module _ (i : Ins) (c : Card) (area : List ℕ) (live : Sound (world c area)) (k : Command) where
+module _ (i : Ins) (c : Card) (area : List ℕ) (live : SoundWorld (world c area)) (k : Command) where
   same-counts : (e : Effect) → e .card .directory .count ≡ c .directory .count → e .card .directory .number ≡ c .directory .number → Counts i c area k e
   same-counts e p q = inl (record { files-are = p; directories-are = q })
 
@@ -359,7 +359,7 @@ module _ (i : Ins) (c : Card) (area : List ℕ) (live : Sound (world c area)) (k
   touch-counts (reloads w d) random = same-counts _ refl refl
   touch-counts (challenges n) random = same-counts _ refl refl
 
-step-counts : (c : Card) (area cmd random : List ℕ) → Sound (world c area)
+step-counts : (c : Card) (area cmd random : List ℕ) → SoundWorld (world c area)
     → Counts (listed (framed cmd)) c area (framed cmd) (outcome (listed (framed cmd)) c (recordFound c area (framed cmd)) (framed cmd) random)
 step-counts c area cmd random live =
     let i = listed (framed cmd) in
@@ -367,7 +367,7 @@ step-counts c area cmd random live =
     (λ t q. touch-counts i c area live (framed cmd) t random) (λ xs v sw. inl (record { files-are = refl; directories-are = refl }))
 
 -- what CREATE FILE needs, in the ledger
-module _ (c : Card) (area : List ℕ) (live : Sound (world c area)) (l : Ledger) (agree : Agree c l) (h : opens c (creationRight c) ≡ true) where
+module _ (c : Card) (area : List ℕ) (live : SoundWorld (world c area)) (l : Ledger) (agree : Agree c l) (h : opens c (creationRight c) ≡ true) where
   abbrev now : ℕ
   now = c .session .folder
 
@@ -393,10 +393,10 @@ module _ (c : Card) (area : List ℕ) (live : Sound (world c area)) (l : Ledger)
 
 -- the step's card and area are those of its effect
 abbrev pub Grew : Ledger → World → World → List ℕ → Type 0
-Grew l w v cmd = NoneMade w v ⊎ (Made l w v cmd ⊎ MadeDirectory l w v cmd)
+Grew l w v cmd = NoneMade w v ⊎ (Made l w v cmd ⊎ MadeFolder l w v cmd)
 
 -- what comes of a deed or a touch, told of any card and area that have its files
-module _ (l : Ledger) (c : Card) (area cmd : List ℕ) (live : Sound (world c area)) (agree : Agree c l) (e : Effect) where
+module _ (l : Ledger) (c : Card) (area cmd : List ℕ) (live : SoundWorld (world c area)) (agree : Agree c l) (e : Effect) where
   abbrev told-card : Card → Card
   told-card x = withDirectory x (e .card .directory)
 
@@ -435,14 +435,14 @@ module _ (l : Ledger) (c : Card) (area cmd : List ℕ) (live : Sound (world c ar
       subst (λ (d : Directory). Grew l (world c area) (world (withDirectory x d) y) cmd) (sym p)
       (subst (λ (z : List ℕ). Grew l (world c area) (world (told-card x) z) cmd) (sym q) (counted x k))
 
-at-once-makes : (l : Ledger) (c : Card) (area cmd random : List ℕ) → Sound (world c area) → Agree c l
+at-once-makes : (l : Ledger) (c : Card) (area cmd random : List ℕ) → SoundWorld (world c area) → Agree c l
     → Grew l (world c area) (world (atOnce c area cmd random .card) (atOnce c area cmd random .area)) cmd
 unfolding atOnce settled
 at-once-makes l c area cmd random live agree =
     grew l c area cmd live agree (outcome (listed (framed cmd)) c (recordFound c area (framed cmd)) (framed cmd) random) (atOnce c area cmd random .card)
     (atOnce c area cmd random .area) refl refl (step-counts c area cmd random live)
 
-pub step-makes : (l : Ledger) (c : Card) (area cmd random : List ℕ) → Sound (world c area) → Agree c l
+pub step-makes : (l : Ledger) (c : Card) (area cmd random : List ℕ) → SoundWorld (world c area) → Agree c l
     → Grew l (world c area) (world (step c area cmd random .card) (step c area cmd random .area)) cmd
 step-makes l c area cmd random live agree =
     let made = at-once-makes l c area cmd random live agree in
@@ -473,7 +473,7 @@ step-makes l c area cmd random live agree =
 pub files-created : Created
 files-created o area es h e = go e (after-live o area es h) (follows o area es h)
   where
-    go : (e : Event) → Sound (after o area es) → Agree (after o area es .card) (ledger o es)
+    go : (e : Event) → SoundWorld (after o area es) → Agree (after o area es .card) (ledger o es)
         → NoneMade (after o area es) (called (after o area es) e) ⊎ Makes (ledger o es) (after o area es) (called (after o area es) e) e
     go (sent cmd random reply) live agree =
         rw (command-is (after o area es .card) (after o area es .area) live cmd random reply)

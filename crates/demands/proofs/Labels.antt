@@ -26,7 +26,7 @@ use Rattle.rules.specs.Binary.{opens}
 use Rattle.rules.specs.Select.{selected, selectChecks, selectDeed}
 use Rattle.rules.specs.Effect.{Deed, turns, enters, shows, stores, appends, makes, founds}
 use Rattle.rules.specs.Create.{fileGiven, isFolder, folderGiven, goodFolderGiven, creationRight, createChecks, createDeed}
-use Rattle.demands.specs.Ledger.{Label, Tag, Tree, noTag, labelGiven, tagGiven, fidOf, sfiOf, fidOfTag, sizeOf, goodSize, goodRight, goodFileRight, hasName, tagged, tagIn, bytesTaken, satisfied, mayCreate, asksDirectory, goodData, nameFree, roomFor, makeChecks, withMade, turnedTo, fidAsked, seekChecks, leadsTo}
+use Rattle.demands.specs.Ledger.{Label, Tag, Tree, noTag, labelGiven, tagGiven, fidOf, sfiOf, fidOfTag, sizeOf, goodSize, goodRight, goodFileRight, hasName, tagged, tagIn, bytesTaken, satisfied, mayCreate, asksFolder, goodData, nameFree, roomFor, makeChecks, withMade, turnedTo, fidAsked, seekChecks, leadsTo}
 use Rattle.demands.specs.Held.{labelOf, tagOf}
 use Rattle.demands.proofs.Trees.{EachIs, each-same, each-at, satisfied-is}
 
@@ -163,7 +163,7 @@ given-tag k = refl
 given-sfi : (current : ℕ) (k : Command) → p k % 32 ≡ sfiOf (labelGiven current k)
 given-sfi current k = refl
 
-given-kind : (current : ℕ) (k : Command) → isFolder k ≡ asksDirectory (labelGiven current k)
+given-kind : (current : ℕ) (k : Command) → isFolder k ≡ asksFolder (labelGiven current k)
 given-kind current k = refl
 
 -- what the card finds the tree finds
@@ -272,7 +272,7 @@ module _ (c : Card) (few : c .directory .count ≤ 16) (less : c .directory .num
 
   -- and what CREATE FILE leaves
   pub create-leaves : treeBy (createDeed c k) t ≡ withMade t k
-  create-leaves = rw (m .current-is, given-kind (t .current) k) (go (asksDirectory (labelGiven (t .current) k)))
+  create-leaves = rw (m .current-is, given-kind (t .current) k) (go (asksFolder (labelGiven (t .current) k)))
     where
       go : (b : Bool) → treeBy (cond b (founds (folderGiven k)) (makes (fileGiven (t .current) k))) t
           ≡ cond b (record { labels = t .labels; tags = tagGiven k ∷ t .tags; current = t .current })

@@ -35,7 +35,7 @@ use Rattle.rules.proofs.Good.{Good, sound-good, sound-parted}
 use Rattle.rules.proofs.Targets.{place-named}
 use Rattle.demands.specs.Ledger.{Event, sent, resets, binaryP, recordP}
 use Rattle.demands.specs.Held.{IsFile, bytesNo, binarySfi, recordSfi}
-use Rattle.demands.specs.Run.{World, world, Sound, called}
+use Rattle.demands.specs.Run.{World, world, SoundWorld, called}
 use Rattle.demands.specs.Framing.{NamedBy}
 use Rattle.demands.specs.Files.{AlikeBut}
 use Rattle.demands.specs.Outsider.{heard, AllButBytes, IsReadOf, Unsatisfied, Outsider, ResetForgets, OtherBytes}
@@ -85,7 +85,7 @@ module _ (c : Card) (g : Good c) (l : Located) (k : Command) (n : ℕ) (some : 1
   is-read GetResponse b p e = absurd (omega (arith, e, some))
   is-read Unlisted b p e = absurd (omega (arith, e, some))
 
-module _ (c : Card) (area other : List ℕ) (n : ℕ) (live : Sound (world c area)) (file-here : IsFile c n) (alike : AlikeBut c n area other) where
+module _ (c : Card) (area other : List ℕ) (n : ℕ) (live : SoundWorld (world c area)) (file-here : IsFile c n) (alike : AlikeBut c n area other) where
   module _ (cmd random : List ℕ) where
     abbrev k : Command
     k = framed cmd
@@ -109,7 +109,7 @@ module _ (c : Card) (area other : List ℕ) (n : ℕ) (live : Sound (world c are
             (treated c area cmd random live n file-here .hidden)
         go false h = let z = refused-shows i c l k random h in inr (omega (arith, z .0, z .1))
 
-  file-call : (e : Event) → Sound (world c other) → Unsatisfied n (world c area) (world c other) e
+  file-call : (e : Event) → SoundWorld (world c other) → Unsatisfied n (world c area) (world c other) e
       → (heard (world c area) e ≡ heard (world c other) e) × AllButBytes n (called (world c area) e) (called (world c other) e)
   file-call (sent cmd random reply) there closed =
       command-alike (AllButBytes n) (world c area) (world c other) live there cmd random reply (record { there = file-here; card-is = refl; areas = alike })
@@ -122,10 +122,10 @@ module _ (c : Card) (area other : List ℕ) (n : ℕ) (live : Sound (world c are
         areas = record { but-bytes = alike .but-bytes; lengths-are = alike .lengths-are };
       })
 
-one-file : (n : ℕ) (w v : World) (e : Event) → Sound w → Sound v → AllButBytes n w v → Unsatisfied n w v e
+one-file : (n : ℕ) (w v : World) (e : Event) → SoundWorld w → SoundWorld v → AllButBytes n w v → Unsatisfied n w v e
     → (heard w e ≡ heard v e) × AllButBytes n (called w e) (called v e)
 one-file n w v e lw lv r =
-    subst (λ (c : Card). Sound (world c (v .area)) → Unsatisfied n w (world c (v .area)) e
+    subst (λ (c : Card). SoundWorld (world c (v .area)) → Unsatisfied n w (world c (v .area)) e
     → (heard w e ≡ heard (world c (v .area)) e) × AllButBytes n (called w e) (called (world c (v .area)) e)) (r .card-is)
     (file-call (w .card) (w .area) (v .area) n lw (r .there) (r .areas) e) lv
 
@@ -175,7 +175,7 @@ other-bytes n bytes w s file-here long lengths =
     lies (c .directory) n (length area) (lies-in-area (c .directory) area (sound-parted c area (s .sound-card)) n named) .fits in
     let fits : a + length bytes ≤ length area = rw many inside in
     let alike = stored-alike c n bytes area many fits (subst (λ (z : List ℕ). SameLengths (fileOf c n) z bytes) (bytes-are c area n) lengths) in
-    subst (λ (at : ℕ). let v = world c (take at area ++ (bytes ++ drop (at + length bytes) area)) in Sound v × (AllButBytes n w v × (bytesNo c (v .area) n ≡ bytes)))
+    subst (λ (at : ℕ). let v = world c (take at area ++ (bytes ++ drop (at + length bytes) area)) in SoundWorld v × (AllButBytes n w v × (bytesNo c (v .area) n ≡ bytes)))
     (sym (start-is (c .directory .files) (n - 1))) (
       record { sound-card = sound-same c area (splice area a bytes) n (s .sound-card) named alike; size-is = splice-length area a bytes fits ∙ s .size-is },
       (

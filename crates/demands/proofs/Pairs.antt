@@ -16,7 +16,7 @@ use Rattle.rules.specs.Response.{waitSw, fetchCount, getResponseChecks, fetches
 use Rattle.rules.specs.Step.{Stepped, atOnce, waits, delivered, gives, unchanged, fetched, step}
 use Rattle.rules.specs.Calls.{replySize, randomSize, refused, served, cleared}
 use Rattle.demands.specs.Ledger.{Event, sent, resets, servable}
-use Rattle.demands.specs.Run.{World, world, Sound, left, called, run}
+use Rattle.demands.specs.Run.{World, world, SoundWorld, left, called, run}
 use Rattle.demands.specs.Outsider.{Heard, hear, heard, hears, Before, Same}
 use Rattle.demands.proofs.Live.{call-live, command-served, reset-answers}
 
@@ -85,7 +85,7 @@ module _ (Alike : World → World → Type 0) (waited : Waited Alike) where
 
 module _ (Alike : World → World → Type 0) where
   -- ---- the call, from its step
-  module _ (w v : World) (lw : Sound w) (lv : Sound v) where
+  module _ (w v : World) (lw : SoundWorld w) (lv : SoundWorld v) where
     pub command-alike : (cmd random reply : List ℕ) → Alike w v
         → (servable random reply ≡ true → StepAlike Alike (step (w .card) (w .area) cmd random) (step (v .card) (v .area) cmd random))
         → (heard w (sent cmd random reply) ≡ heard v (sent cmd random reply)) × Alike (called w (sent cmd random reply)) (called v (sent cmd random reply))
@@ -121,8 +121,8 @@ module _ (Alike : World → World → Type 0) where
     after-more e es s (suc n) = s n
 
   module _ (P : World → World → Event → Type 0)
-      (one : (w v : World) (e : Event) → Sound w → Sound v → Alike w v → P w v e → (heard w e ≡ heard v e) × Alike (called w e) (called v e)) where
-    pub each-call : (w v : World) (es : List Event) → Sound w → Sound v → Alike w v → Before P w v es → Same Alike w v es
+      (one : (w v : World) (e : Event) → SoundWorld w → SoundWorld v → Alike w v → P w v e → (heard w e ≡ heard v e) × Alike (called w e) (called v e)) where
+    pub each-call : (w v : World) (es : List Event) → SoundWorld w → SoundWorld v → Alike w v → Before P w v es → Same Alike w v es
     unfolding hears Before
     each-call w v [] lw lv r p = record { heard-are = refl; alike = after-none w v r }
     each-call w v (e ∷ es) lw lv r p =

@@ -48,7 +48,7 @@ use Rattle.rules.proofs.Asked.{some-file, binary-asked, create-asked, found-ask
 use Rattle.rules.proofs.Found.{read-fits, read-long, update-fits, update-any, update-stored, append-fits, append-stored}
 use Rattle.rules.proofs.Found as found
 use Rattle.rules.proofs.Equal.{same-equal, cryptogram-is}
-use Rattle.demands.specs.Ledger.{Kind, other, right as rightly, changed, reloaded, Tree, pinSent, inDigits, presentAsks, keyAsks, changeAsks, reloadAsks, challengeAsks, response, passes, presented, about, kind, challenged, labelGiven, tagGiven, grown, pinOf, binaryP, recordP, appendP}
+use Rattle.demands.specs.Ledger.{Kind, other, right as rightly, changed, reloaded, Tree, pinSent, inDigits, presentAsks, keyAsks, changeAsks, reloadAsks, challengeAsks, cryptogramOf, passes, presented, about, kind, challenged, labelGiven, tagGiven, grown, pinOf, binaryP, recordP, appendP}
 use Rattle.demands.specs.Held.{labelOf, tagOf}
 use Rattle.demands.proofs.Trees.{all-passed}
 use Rattle.demands.proofs.Presented.{right-is-equal}
@@ -440,7 +440,7 @@ kind-same Verify l ch cmd w =
     ∙ ap (λ x. cond (passes (verifyChecks l k) k) x other) (query-kind (eqb (k .case) 1) (pinNamed k) (l (pinNamed k) .value) (k .given) w)
 kind-same Authenticate l ch cmd w =
     let k = framed cmd in
-    ap (λ (t : List ℕ). cond (passes t k) (about device w (presented (response (l device .value) ch) (k .given))) other) (key-same l ch k)
+    ap (λ (t : List ℕ). cond (passes t k) (about device w (presented (cryptogramOf (l device .value) ch) (k .given))) other) (key-same l ch k)
     ∙ ap (λ (x : List ℕ). cond (passes (authenticateChecks l ch k) k) (about device w (presented x (k .given))) other) (sym (cryptogram-is (l device .value) ch))
 kind-same ChangePin l ch cmd w =
     let k = framed cmd in

@@ -35,14 +35,14 @@ use Rattle.rules.proofs.Good.{sound-good, sound-parted, filled-back, said-short
 use Rattle.rules.proofs.Checks.{either}
 use Rattle.rules.proofs.Targets.{place-named}
 use Rattle.demands.specs.Ledger.{Event, sent, resets, right as rightly, Ledger, servable, ledger}
-use Rattle.demands.specs.Run.{World, world, Sound, called}
+use Rattle.demands.specs.Run.{World, world, SoundWorld, called}
 use Rattle.demands.specs.Response.{PutByRead, PutByChallenge, LeftOf, PutBy, WaitingByRight}
 use Rattle.demands.specs.Held.{IsFile}
 use Rattle.demands.proofs.Rows.{codeIn, Fair, FairTouch, by-rule}
 use Rattle.demands.proofs.Delivered.{at-once-response, fetched-by, step-by}
 use Rattle.demands.proofs.Soundness.{waiting-few}
 use Rattle.demands.proofs.Live.{after-live, command-is, reset-is}
-use Rattle.demands.proofs.Follows.{Agree, follows}
+use Rattle.demands.proofs.Credentials.{Agree, follows}
 use Rattle.demands.proofs.History.{right-told, code-told}
 use Rattle.demands.proofs.Addressed.{readsFrom, reads-from}
 use Rattle.demands.proofs.View.{bytes-are}
@@ -82,7 +82,7 @@ record ReadData (i : Ins) (c : Card) (area : List ℕ) (k : Command) (e : Effect
 abbrev Source : Ins → Card → List ℕ → Command → Effect → Type 0
 Source i c area k e = (data-of e area ≡ []) ⊎ (ReadData i c area k e ⊎ ((data-of e area ≡ e .says) × (length (e .says) ≤ responseSize)))
 
-module _ (c : Card) (area : List ℕ) (live : Sound (world c area)) (i : Ins) (k : Command) where
+module _ (c : Card) (area : List ℕ) (live : SoundWorld (world c area)) (i : Ins) (k : Command) where
   none : (sw : ℕ) (x : Card) → Source i c area k (answers sw x)
   unfolding part
   none sw x = inl refl
@@ -120,7 +120,7 @@ module _ (c : Card) (area : List ℕ) (live : Sound (world c area)) (i : Ins) (k
       inr (inr (ap (λ z. take n random ++ z) (nothing-shown area) ∙ append-nil (take n random), omega (arith, length-take n random, said-short n (either (isZero n) q))))
 
 -- the command at once: where its data come from
-module _ (c : Card) (area : List ℕ) (live : Sound (world c area)) (l : Ledger) (agree : Agree c l) (cmd random : List ℕ) where
+module _ (c : Card) (area : List ℕ) (live : SoundWorld (world c area)) (l : Ledger) (agree : Agree c l) (cmd random : List ℕ) where
   abbrev v : World
   v = world (withWaiting (atOnce c area cmd random .card) (atOnce c area cmd random .bytes)) (atOnce c area cmd random .area)
 
@@ -158,7 +158,7 @@ module _ (c : Card) (area : List ℕ) (live : Sound (world c area)) (l : Ledger)
       inr (waits ∙ ap (take responseSize) (q .0) ∙ take-all responseSize (e .says) (q .1) ∙ sym (filled-back (e .says)))) z)) source
 
 -- the step and the call
-module _ (c : Card) (area : List ℕ) (live : Sound (world c area)) (l : Ledger) (agree : Agree c l) where
+module _ (c : Card) (area : List ℕ) (live : SoundWorld (world c area)) (l : Ledger) (agree : Agree c l) where
   abbrev Put : List ℕ → World → Type 0
   Put cmd x = LeftOf (world c area) x ⊎ (PutByRead (world c area) x l cmd ⊎ PutByChallenge x)
 

@@ -21,7 +21,7 @@ use Rattle.rules.specs.Frame.{Command, framed, frameSw, classSw}
 use Rattle.rules.specs.List.{listed, Role, touchesNothing, selects, readsBinary, readsRecord, writesBinary, writesRecord, appendsRecord, makesFile, presentsPin, presentsKey, changesPin, reloadsPin, asksChallenge, role}
 use Rattle.rules.specs.Calls.{Order}
 use Rattle.rules.proofs.Checks.{Passed, passed, holds}
-use Rattle.demands.specs.Ledger.{Event, sent, resets, Label, Tag, Tree, passes, noLabel, noTag, nth, tagIn, fidOf, fidOfTag, hasName, tagged, bitSet, satisfied, asksDirectory, labelGiven, tagGiven, makeChecks, withMade, turnedTo, fidAsked, seekChecks, leadsTo, grown, Ledger, tells, selectSw, servable, next, tell, ledger}
+use Rattle.demands.specs.Ledger.{Event, sent, resets, Label, Tag, Tree, passes, noLabel, noTag, nth, tagIn, fidOf, fidOfTag, hasName, tagged, bitSet, satisfied, asksFolder, labelGiven, tagGiven, makeChecks, withMade, turnedTo, fidAsked, seekChecks, leadsTo, grown, Ledger, tells, selectSw, servable, next, tell, ledger}
 use Rattle.demands.specs.Directories.{directoryFid, SelectLeads, CurrentMoves}
 use Rattle.demands.specs.Framing.{Sent, NamedBy}
 use Rattle.demands.proofs.Framing.{listed-by-bytes, select-by-bytes}
@@ -95,7 +95,7 @@ twice-tree a b c g h = record {
 
 made-grown : (t : Tree) (k : Command) → TreeGrown t (withMade t k)
 made-grown t k =
-    split (TreeGrown t) (asksDirectory (labelGiven (t .current) k))
+    split (TreeGrown t) (asksFolder (labelGiven (t .current) k))
     (λ e. record { files = same-grown Label noLabel (t .labels); directories = more-grown Tag noTag (t .tags) (tagGiven k) })
     (λ e. record { files = more-grown Label noLabel (t .labels) (labelGiven (t .current) k); directories = same-grown Tag noTag (t .tags) })
 
@@ -217,7 +217,7 @@ module _ (l : Ledger) (cmd random reply : List ℕ) (q : servable random reply �
   moved ReloadPin e = inl refl
   moved CreateFile e =
       inl (split (λ (x : Tree). x .current ≡ l .tree .current) (passes (makeChecks (tells l) (l .tree) k) k)
-      (λ p. split (λ (x : Tree). x .current ≡ l .tree .current) (asksDirectory (labelGiven (l .tree .current) k)) (λ z. refl) (λ z. refl)) (λ p. refl))
+      (λ p. split (λ (x : Tree). x .current ≡ l .tree .current) (asksFolder (labelGiven (l .tree .current) k)) (λ z. refl) (λ z. refl)) (λ p. refl))
   moved GetChallenge e = inl refl
   moved GetResponse e = inl refl
   moved Unlisted e = inl refl

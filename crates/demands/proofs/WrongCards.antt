@@ -38,10 +38,10 @@ use Rattle.rules.specs.Calls.{Done, Order, replySize, command, reset, goodOrder
 use Rattle.rules.proofs.Equal.{same-equal, equal-same}
 use Rattle.demands.specs.Ledger.{Event, sent, Page}
 use Rattle.demands.specs.Run.{World, world, run, Served, after}
-use Rattle.demands.specs.Follows.{Agrees}
+use Rattle.demands.specs.Credentials.{Agrees}
 use Rattle.demands.specs.WrongCards.{Box, Fails, dropsAtRefusal, keepsWaiting, saysNothingWaits, dropsChallenge, entersNew, keepsFile, looksInRoot, staysInside, undoesTries, codeForRight, UndoesTries, CodeForRight, EntersNew, KeepsFile, LooksInRoot, StaysInside, DropsAtRefusal, KeepsWaiting, SaysNothingWaits, DropsChallenge, refusesAll, onlySays, neverAlters, obeysOnce, FailsNotMeets, RefusesAll, OnlySays, NeverAlters, ObeysOnce, RulesMeet, MadeUpBreaks}
 use Rattle.demands.proofs.Live.{after-live}
-use Rattle.demands.proofs.Follows.{login-set, full}
+use Rattle.demands.proofs.Credentials.{login-set, full}
 use Rattle.demands.proofs.Bound.{credentials-follow}
 
 pub fails-not-meets : FailsNotMeets

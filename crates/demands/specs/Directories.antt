@@ -34,14 +34,14 @@ SelectFollows =
     → step (after o area es .card) (after o area es .area) cmd random .sw ≡ selectSw (ledger o es) (framed cmd)
 
 -- whatever calls follow, a directory stays in its place and keeps its FID and its creation right
-pub record DirectoryRemains (c x : Card) (n : ℕ) : Type 0 where
+pub record FolderRemains (c x : Card) (n : ℕ) : Type 0 where
   pub there : IsFolder x n
   pub tag-is : tagNo x n ≡ tagNo c n
 
 abbrev pub DirectoriesRemain : Type 0
 DirectoriesRemain =
     (o : Order) (area : List ℕ) (es more : List Event) → Served o area → (n : ℕ) → IsFolder (after o area es .card) n
-    → DirectoryRemains (after o area es .card) (after o area (es ++ more) .card) n
+    → FolderRemains (after o area es .card) (after o area (es ++ more) .card) n
 
 -- the FID of a directory, 3F00 of the root
 abbrev pub directoryFid : Tree → ℕ → ℕ
@@ -99,7 +99,7 @@ NoneLeads l (e ∷ more) n = (Leads l e n → ⊥) × NoneLeads (next l e) more 
 
 -- one firm's commands reach the other firm's files only behind a SELECT that leads there: after calls of which none leads to a file's directory, from
 -- outside of it, all of the file is as it was, and it is still out of reach
-pub record Untouched (o : Order) (area : List ℕ) (es more : List Event) (n : ℕ) : Type 0 where
+pub record StillOutOfReach (o : Order) (area : List ℕ) (es more : List Event) (n : ℕ) : Type 0 where
   pub stays : Stays (after o area es) (after o area (es ++ more)) n
   pub out-of-reach : OutOfReach o area (es ++ more) n
 
@@ -108,4 +108,4 @@ OnlyBehindSelect =
     (o : Order) (area : List ℕ) (es more : List Event) → Served o area → (n : ℕ) → IsFile (after o area es .card) n
     → (labelIn (ledger o es .tree .labels) n .within ≡ ledger o es .tree .current → ⊥)
     → NoneLeads (ledger o es) more (labelIn (ledger o es .tree .labels) n .within)
-    → Untouched o area es more n
+    → StillOutOfReach o area es more n

@@ -15,7 +15,7 @@ use Rattle.rules.specs.Frame.{Command, framed}
 use Rattle.rules.specs.Calls.{command, reset}
 use Rattle.demands.specs.Ledger.{Event, sent, resets, right, sizeOf, binaryP, recordP, servable}
 use Rattle.demands.specs.Held.{fileNo, IsFile, labelNo, startNo, bytesNo, binarySfi, recordSfi, credentialNo, valueNo, Opens, heldOn}
-use Rattle.demands.specs.Run.{World, world, Sound, called, run}
+use Rattle.demands.specs.Run.{World, world, SoundWorld, called, run}
 use Rattle.demands.specs.Files.{Addresses, AlikeBut}
 use Rattle.demands.specs.Codes.{kindOn}
 
@@ -77,7 +77,7 @@ Unsatisfied n w v resets = Unit
 -- each of its reads, give the same replies and stay alike in all but that file's bytes
 abbrev pub Outsider : Type 0
 Outsider =
-    (n : ℕ) (w v : World) (es : List Event) → Sound w → Sound v → AllButBytes n w v → Before (Unsatisfied n) w v es
+    (n : ℕ) (w v : World) (es : List Event) → SoundWorld w → SoundWorld v → AllButBytes n w v → Before (Unsatisfied n) w v es
     → Same (AllButBytes n) w v es
 
 -- whoever comes after a reset: of rights, current file and directory, challenge and waiting bytes nothing is left, so that cards which differ in these too are
@@ -91,7 +91,7 @@ pub record AllButSession (n : ℕ) (w v : World) : Type 0 where
 
 abbrev pub ResetForgets : Type 0
 ResetForgets =
-    (n : ℕ) (w v : World) → Sound w → Sound v → AllButSession n w v
+    (n : ℕ) (w v : World) → SoundWorld w → SoundWorld v → AllButSession n w v
     → (heard w resets ≡ heard v resets) × AllButBytes n (called w resets) (called v resets)
 
 -- there are such pairs: with any other bytes in a file, of its size and with its length bytes, a sound card is sound and alike, and has these bytes
@@ -101,9 +101,9 @@ withContents n bytes w =
 
 abbrev pub OtherBytes : Type 0
 OtherBytes =
-    (n : ℕ) (bytes : List ℕ) (w : World) → Sound w → IsFile (w .card) n → length bytes ≡ sizeOf (labelNo (w .card) n)
+    (n : ℕ) (bytes : List ℕ) (w : World) → SoundWorld w → IsFile (w .card) n → length bytes ≡ sizeOf (labelNo (w .card) n)
     → SameLengths (fileNo (w .card) n) (bytesNo (w .card) (w .area) n) bytes
-    → let v = withContents n bytes w in Sound v × (AllButBytes n w v × (bytesNo (v .card) (v .area) n ≡ bytes))
+    → let v = withContents n bytes w in SoundWorld v × (AllButBytes n w v × (bytesNo (v .card) (v .area) n ≡ bytes))
 
 -- ---- the value of one credential: device key, admin PIN, user PIN or transport key
 -- alike in all but the value of a credential, whose length may differ too; its tries and its limit are alike. The journal of a sound card is 00
@@ -127,7 +127,7 @@ SameVerdict which w v resets = Unit
 -- alone, give the same replies and stay alike in all but that value
 abbrev pub Guesser : Type 0
 Guesser =
-    (which : Which) (w v : World) (es : List Event) → Sound w → Sound v → AllButValue which w v → Before (SameVerdict which) w v es
+    (which : Which) (w v : World) (es : List Event) → SoundWorld w → SoundWorld v → AllButValue which w v → Before (SameVerdict which) w v es
     → Same (AllButValue which) w v es
 
 -- no served presentation of the credential is right on either card
@@ -139,12 +139,12 @@ NoneRight which w v resets = Unit
 -- so whoever has not presented it rightly learns of it only what it is not
 abbrev pub Unguessed : Type 0
 Unguessed =
-    (which : Which) (w v : World) (es : List Event) → Sound w → Sound v → AllButValue which w v → Before (NoneRight which) w v es
+    (which : Which) (w v : World) (es : List Event) → SoundWorld w → SoundWorld v → AllButValue which w v → Before (NoneRight which) w v es
     → Same (AllButValue which) w v es
 
 -- there are such pairs: with any other good value for a credential a sound card is sound and alike, and has this value
 abbrev pub OtherValue : Type 0
 OtherValue =
-    (which : Which) (value : List ℕ) (w : World) → Sound w → goodValue (numberOf which) value ≡ true
+    (which : Which) (value : List ℕ) (w : World) → SoundWorld w → goodValue (numberOf which) value ≡ true
     → let v = world (withValue which (w .card) value) (w .area) in
-    Sound v × (AllButValue which w v × (valueNo (v .card) (numberOf which) ≡ value))
+    SoundWorld v × (AllButValue which w v × (valueNo (v .card) (numberOf which) ≡ value))

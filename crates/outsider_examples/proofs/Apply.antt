@@ -23,7 +23,7 @@ use Rattle.rules.specs.List.{listed, Rule, ofFiles, ofContents, ofCredentials, 
 use Rattle.rules.proofs.Checks.{one-of}
 use Rattle.rules.proofs.Good.{Good, sound-good}
 use Rattle.demands.specs.Ledger.{Event, sent, resets, Kind, other, right, wrong, changed, reloaded, isRight, passes, presented}
-use Rattle.demands.specs.Run.{World, Sound, called}
+use Rattle.demands.specs.Run.{World, SoundWorld, called}
 use Rattle.demands.specs.Codes.{kindOn}
 use Rattle.demands.specs.Outsider.{Before, IsReadOf, Unsatisfied, NoneRight}
 use Rattle.demands.proofs.Presented.{presented-is}
@@ -41,7 +41,7 @@ read-from : (c : Card) → Good c → (k : Command) (n : ℕ) → IsReadOf c k n
 read-from c g k n (inl r) = rw (r .addresses .instruction-is) (named-target c g _ n (r .addresses .named))
 read-from c g k n (inr r) = rw (r .addresses .instruction-is) (named-target c g _ n (r .addresses .named))
 
-closed-one : (m n : ℕ) (w v : World) (e : Event) → Sound w → m < n → closed m w e ≡ true → Unsatisfied n w v e
+closed-one : (m n : ℕ) (w v : World) (e : Event) → SoundWorld w → m < n → closed m w e ≡ true → Unsatisfied n w v e
 closed-one m n w v (sent cmd random reply) s low h = λ served r held.
     let k = framed cmd in
     let e = read-from (w .card) (sound-good (w .card) (w .area) (s .sound-card)) k n r in

@@ -40,7 +40,7 @@ use Rattle.rules.specs.State.{Which, user, transport, numberOf}
 use Rattle.edges.specs.Outsiders.{Drawer, binary, cyclic, notes, asking, never, place, others, guesses, other-pin}
 use Rattle.demands.specs.Ledger.{Event, sizeOf}
 use Rattle.demands.specs.Held.{IsFile, fileNo, labelNo, sizeOfFirst, bytesNo}
-use Rattle.demands.specs.Run.{World, Sound}
+use Rattle.demands.specs.Run.{World, SoundWorld}
 use Rattle.demands.specs.Outsider.{withContents}
 use Rattle.demands.proofs.Outsider.{outsider, other-bytes}
 use Rattle.demands.proofs.Guesser.{unguessed, other-value}
@@ -53,7 +53,7 @@ computed : ℕ → World → List Event → Bool
 unfolding xPower square squares inverse sbox mixColumn expanded keyExpansion roundKey fullRound lastRound rounds cipher aes128 padded added link chain firstBlocks mac allBelow part splice over count recordLength size goodShape allHeld anyHeld allowed goodRights goodFileRights used startAt extent isPlace inArea seek findFid findSfi findFolder back next bytesUsed placesHeld placeOf recordsHeld startOf lengthOf located locatedIn nextPlace nextStart entry appended soundHeld soundUsed partedFile isRecord hasRoom stands past walk parted standing goodContents apart nameUnused room created goodFolder fidUnused founded soundFile unusedPlace sfisDiffer unusedFolder soundFolder soundFolders soundDirectory partedArea orElse allOf same goodPin goodValue soundValue soundTries soundCredential soundChallenge soundResponse soundJournal soundCurrent soundState sound caseOf framed rows find listed rule selectChecks target readCount readBinaryChecks updateBinaryChecks recordFound readRecordChecks updateRecordChecks appendChecks comparedAt verifyChecks changeChecks reloadChecks authenticateChecks getChallengeChecks fileGiven folderGiven goodFolderGiven creationRight createChecks waitSw getResponseChecks fetches codeSw presentsCode credentialsAfter checks effectOf kept outcome settled atOnce fetched step command reset goodOrder issue closedAll wrongAll sizeOf sizeOfFirst
 computed = closedAll
 
-is-sound : (later : Bool) → Sound (box later)
+is-sound : (later : Bool) → SoundWorld (box later)
 unfolding computed
 is-sound false = record { sound-card = refl; size-is = refl }
 is-sound true = record { sound-card = refl; size-is = refl }

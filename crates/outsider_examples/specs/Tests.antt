@@ -22,7 +22,7 @@ use Rattle.rules.specs.Device.{challengeSw}
 use Rattle.rules.specs.Code.{agrees}
 use Rattle.rules.specs.List.{listed, Rule, ofFiles, ofContents, ofCredentials, rule}
 use Rattle.demands.specs.Ledger.{Event, sent, resets, passes}
-use Rattle.demands.specs.Run.{World, Sound, called}
+use Rattle.demands.specs.Run.{World, SoundWorld, called}
 use Rattle.demands.specs.Outsider.{Before, Unsatisfied, NoneRight}
 
 -- ---- a file
@@ -42,7 +42,7 @@ closedAll m w (e ∷ es) = closed m w e && closedAll m (called w e) es
 
 -- where that holds along a run no file past m is read by right
 abbrev pub ClosedBefore : Type 0
-ClosedBefore = (m n : ℕ) (w v : World) (es : List Event) → Sound w → m < n → closedAll m w es ≡ true → Before (Unsatisfied n) w v es
+ClosedBefore = (m n : ℕ) (w v : World) (es : List Event) → SoundWorld w → m < n → closedAll m w es ≡ true → Before (Unsatisfied n) w v es
 
 -- two extents of a file have the same length bytes
 abbrev pub lengthsSame : File → List ℕ → List ℕ → Bool

@@ -44,7 +44,8 @@ use Rattle.rules.proofs.Good.{said-short, Credited, responded, sound-good, soun
 use Rattle.demands.specs.Held.{fileNo, IsFile, bytesNo, folderNo, IsFolder, tagOf, Within, rightNo, credentialNo}
 use Rattle.demands.proofs.Named.{one-sfi, one-fid}
 use Rattle.demands.proofs.View.{size-is, start-is, bytes-are}
-use Rattle.served.specs.Sound.{SoundCredential, SoundFile, Parted, nothing-left, one-more, SoundFiles, SoundFolder, SoundFolders, waitNo, Sound, SoundBothWays}
+use Rattle.served.specs.Left.{waitNo}
+use Rattle.served.specs.Sound.{SoundCredential, SoundFile, Parted, nothing-left, one-more, SoundFiles, SoundFolder, SoundFolders, Sound, SoundBothWays}
 use Rattle.served.proofs.View.{extent-length, parted-sound}
 use Rattle.served.proofs.Credentials.{le-to, to-le}
 use Rattle.served.proofs.Calls.{pin-to, to-pin}

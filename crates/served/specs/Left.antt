@@ -10,12 +10,15 @@ use Rattle.rules.specs.Step.{Stepped}
 use Rattle.demands.specs.Held.{fileNo, startNo, bytesNo, credentialNo, valueNo, leftNo, limitNo, rightNo, labelOf, labelNo}
 use Rattle.demands.specs.Ledger.{sizeOf}
 
--- the mode, and the bytes that wait: as many as the two counts say, high byte first
+-- the mode; how many bytes wait, by two counts, high byte first; and these bytes
 abbrev pub mode : Card → ℕ
 mode c = c .response .mode
 
+abbrev pub waitNo : Card → ℕ
+waitNo c = c .response .count1 * 256 + c .response .count2
+
 abbrev pub waiting : Card → List ℕ
-waiting c = take (c .response .count1 * 256 + c .response .count2) (c .response .bytes)
+waiting c = take (waitNo c) (c .response .bytes)
 
 -- the challenge, [] for none
 abbrev pub challenge : Card → List ℕ

@@ -1,5 +1,5 @@
 -- A state is sound when all this holds: document 01's list, with what R-1, R-5 to R-7, R-9 and R-10 add to it, over the state's fields. The rules' test says just that.
-use Prim.Native.Nat.{ℕ, _+_, _*_, _%_, _≤_, _<_}
+use Prim.Native.Nat.{ℕ, _%_, _≤_, _<_}
 use mathlib.Core.Bool.{true}
 use mathlib.Core.List.{List, [], _∷_}
 use mathlib.Core.Logic.{_⊎_}
@@ -13,6 +13,7 @@ use Rattle.rules.specs.Words.{byte}
 use Rattle.rules.specs.Sound.{sound}
 use Rattle.demands.specs.Held.{fileNo, IsFile, sizeOfFirst, bytesNo, folderNo, IsFolder, tagNo, Within, bytesUsed, credentialNo, rightNo, labelOf, labelNo}
 use Rattle.demands.specs.Ledger.{Tag, sizeOf, fidOf, sfiOf, fidOfTag}
+use Rattle.served.specs.Left.{waitNo}
 use Rattle.served.specs.Calls.{GoodPin}
 use Rattle.served.specs.Answers.{GoodRight, GoodContents}
 
@@ -71,10 +72,6 @@ pub record SoundFolders (c : Card) : Type 0 where
   pub unused : (n : ℕ) → c .directory .number < n → n ≤ 4 → folderNo c n ≡ blankFolder
   pub one-fid : (n m : ℕ) → IsFolder c n → IsFolder c m → fidOfTag (tagNo c n) ≡ fidOfTag (tagNo c m) → n ≡ m
   pub no-file : (n m : ℕ) → IsFolder c n → Within c 0 m → fidOfTag (tagNo c n) ≡ fidOf (labelNo c m) → ⊥
-
--- how many bytes wait
-abbrev pub waitNo : Card → ℕ
-waitNo c = c .response .count1 * 256 + c .response .count2
 
 -- four credentials, the last of which has no right; the current directory exists, and the current file lies in it; a challenge of 4, 8 or 16 bytes or none;
 -- at most 256 bytes wait, and none in mode 0; the journal is 00
