@@ -47,7 +47,7 @@ use Rattle.power.specs.Recovery.{tidied}
 use Rattle.cuts.specs.Ledger.{Happening, call, cut, ledger}
 use Rattle.cuts.specs.Cut.{Unchanged, NotMade, MadeWhole, FoundedWhole, AllowedDeed, AllowedTouch, heard, Allowed, cutAt}
 use Rattle.cuts.specs.Run.{happened, after}
-use Rattle.cuts.specs.Demands.{WritesIt, Altered, MakesIt, Created}
+use Rattle.cuts.specs.Demands.{WritesIt, Altered, MakesIt, FilesCreated}
 use Rattle.cuts.proofs.Planned.{Code, no-code, Behind, plan-by}
 use Rattle.cuts.proofs.Heard.{heard-files}
 use Rattle.cuts.proofs.Cut.{cut-recovers}
@@ -263,7 +263,7 @@ altered o area xs served x n here = go x
         }))
         (cut-alters (w .card) (w .area) live cmd n here (reached (w .card) (w .area) live cmd random reply m)))
 
-pub files-created : Created
+pub files-created : FilesCreated
 files-created o area xs served x = go x
   where
     w : World

@@ -104,8 +104,8 @@ abbrev pub MakesIt : Ledger → World → World → Happening → Type 0
 MakesIt l w v (call e) = Makes l w v e
 MakesIt l w v (cut cmd random reply n s r) = Made l w v cmd ⊎ MadeFolder l w v cmd
 
-abbrev pub Created : Type 0
-Created =
+abbrev pub FilesCreated : Type 0
+FilesCreated =
     (o : Order) (area : List ℕ) (xs : List Happening) → Served o area → (x : Happening)
     → NoneMade (after o area xs) (happened (after o area xs) x) ⊎ MakesIt (ledger o xs) (after o area xs) (happened (after o area xs) x) x
 

@@ -45,7 +45,7 @@ use Rattle.rules.proofs.Good.{sound-good, sound-parted}
 use Rattle.rules.proofs.Targets.{place-named}
 use Rattle.demands.specs.Ledger.{Event, sent, resets, Kind, right as rightly, kind, kindIn, isHeld, opensRight, Label, Tag, noLabel, labelGiven, tagGiven, sizeOf, labelIn, tagIn, Ledger, page, selectSw, servable, ledger, heldIn}
 use Rattle.demands.specs.Run.{World, world, SoundWorld, called, after}
-use Rattle.demands.specs.Files.{Labelled, FilesFollow, RightCode, WrittenByRight, ReadByRight, Writes, Stays, Altered, AlikeBut, SameBut, Shown, Made, MadeFolder, NoneMade, Makes, Created}
+use Rattle.demands.specs.Files.{Labelled, FilesFollow, RightCode, WrittenByRight, ReadByRight, Writes, Stays, Altered, AlikeBut, SameBut, Shown, Made, MadeFolder, NoneMade, Makes, FilesCreated}
 use Rattle.demands.specs.Held.{labelOf, Opens, AsksCode, MayCreate, IsFile, labelNo, tagNo}
 use Rattle.demands.specs.Framing.{NamedBy}
 use Rattle.demands.specs.Outsider.{Heard, AllButBytes}
@@ -470,7 +470,7 @@ step-makes l c area cmd random live agree =
     })) y)) made)
     (λ m f. made)
 
-pub files-created : Created
+pub files-created : FilesCreated
 files-created o area es h e = go e (after-live o area es h) (follows o area es h)
   where
     go : (e : Event) → SoundWorld (after o area es) → Agree (after o area es .card) (ledger o es)

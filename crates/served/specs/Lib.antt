@@ -1,4 +1,4 @@
--- What should be served is served: statements about document 01's rules.
+-- What should be served is served: statements about the rules of documents 01 and 02.
 pub mod Left
 pub mod Answers
 pub mod One
