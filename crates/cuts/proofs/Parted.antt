@@ -55,12 +55,6 @@ module _ (c : Card) (area : List ℕ) (h : sound c area ≡ true) (size-is : len
 
     -- its entry may be another of the same size
     module _ (f : File) (same-size : size f ≡ size (fileOf c place)) (at : ℕ) (ys : List ℕ) (fits : at + length ys ≤ size (fileOf c place)) where
-      abbrev e : Directory
-      e = withFile (c .directory) (place - 1) f
-
-      abbrev y : List ℕ
-      y = splice area (start (c .directory) place + at) ys
-
       pub long-enough : start (c .directory) place + at + length ys ≤ length area
       long-enough = omega (arith, lies d place (length area) here .fits)
 
