@@ -8,8 +8,7 @@ use Rattle.sums.specs.Alarm.{good, alarmOf}
 use Rattle.sums.specs.Totals.{isAt, tally}
 use Rattle.sums.specs.Kept.{more, plus, sumOf, summed}
 use Rattle.alarms.specs.Line.{nameOf, digitsOf, allHex, hexFrom, alarmIn, goodLine, onFirst, linesOf}
-use Rattle.alarms.specs.Report.{row, rows, refused, told, report}
-use Rattle.alarms.specs.Report.{table as totalsTable}
+use Rattle.alarms.specs.Report.{row, rows, refused, told, report, table as totalsTable}
 use Rattle.alarm_examples.specs.Table.{Row, allHold}
 use Rattle.alarm_examples.specs.Lines.{alarms-read, bad-lines, every-byte}
 use Rattle.alarm_examples.specs.Reports.{ends, sums-told, refusals, most, lists}

@@ -18,7 +18,7 @@ use Rattle.rules.specs.Device.{challengeSw}
 use Rattle.rules.specs.Code.{agrees, codeSw, presentsCode, keyAfter, credentialsAfter}
 use Rattle.rules.proofs.Checks.{passed, passing}
 use Rattle.card.specs.declared.Heard.{Heard}
-use Rattle.card.specs.Credentials.{tried}
+use Rattle.rules.specs.Tries.{tried}
 use Rattle.card.specs.Carried.{withKeyLeft}
 use Rattle.card.specs.Coded.{codeGiven, heardSo, Hears}
 use Rattle.card.proofs.Sparing.{same-left}

@@ -16,7 +16,8 @@ use Rattle.rules.specs.Words.{byte, orElse, first}
 use Rattle.rules.specs.State.{transport, credential, login, logins, challenge}
 use Rattle.rules.specs.Frame.{Command, lcBefore, framed, frameSw, classSw, coded}
 use Rattle.rules.specs.Select.{selectChecks}
-use Rattle.rules.specs.Binary.{target, readCount, readBinaryChecks, updateBinaryChecks}
+use Rattle.rules.specs.Binary.{readCount, readBinaryChecks, updateBinaryChecks}
+use Rattle.rules.specs.Target.{target}
 use Rattle.rules.specs.Record.{recordFound, readRecordChecks, updateRecordChecks, appendChecks}
 use Rattle.rules.specs.Pins.{triesSw, verifyChecks, changeChecks, reloadChecks}
 use Rattle.rules.specs.Device.{challengeSw, authenticateChecks, getChallengeChecks}
@@ -118,7 +119,7 @@ module _ (c : Card) (k : Command) where
   -- what it does, with the tries that the code leaves
   keyed-by : (q : Rule) (l : Located) (random : List ℕ) (n : ℕ) → withKeyLeft c n ≡ keptBy q c k → (takesCode q ≡ false → n ≡ credential c 3 .tries .left) → SparesBy q k c
       → keyed n (doneBy q c l k random) ≡ effectBy q c l k random
-  keyed-by (ofFiles t d) l random n e same o = sym (did-keyed n c (d c l k)) ∙ ap (λ (z : Card). did z (d c l k)) e
+  keyed-by (ofFiles t d) l random n e same o = sym (did-keyed n c (d c k)) ∙ ap (λ (z : Card). did z (d c k)) e
   keyed-by (ofContents f t d) l random n e same o = sym (did-keyed n c (d c l k)) ∙ ap (λ (z : Card). did z (d c l k)) e
   keyed-by (ofCredentials t d) l random n e same o =
       ap (λ (m : ℕ). keyed m (touched c (d (logins c) (challenge c) k) random)) (same refl) ∙ touched-keyed c (d (logins c) (challenge c) k) o random

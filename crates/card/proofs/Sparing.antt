@@ -20,7 +20,7 @@ use Rattle.rules.specs.Tries.{restored}
 use Rattle.rules.specs.State.{admin, user, transport, numberOf, noCredential, credential, logins, challenge, credentialOf, withTries, withCredentials}
 use Rattle.rules.specs.Frame.{Command}
 use Rattle.rules.specs.Effect.{Deed, turns, enters, shows, stores, appends, makes, founds, Touch, nothing, presents, changes, reloads, challenges, Effect, effect, answers}
-use Rattle.rules.specs.Pins.{whichOf, comparedAt}
+use Rattle.rules.specs.Pins.{comparedAt}
 use Rattle.rules.specs.List.{Rule, ofFiles, ofContents, ofCredentials, rule}
 use Rattle.rules.specs.Code.{credentialsAfter, afterCode}
 use Rattle.rules.specs.Step.{swOf, keptBy, effectBy, kept, effectOf, did, touched, ruled, outcome}
@@ -87,7 +87,7 @@ SparesBy (ofFiles t d) k c = Unit
 SparesBy (ofContents f t d) k c = Unit
 SparesBy (ofCredentials t d) k c = Spares (d (logins c) (challenge c) k)
 
-pin-spared : (b : Bool) → 3 ≡ numberOf (whichOf b admin user) → ⊥
+pin-spared : (b : Bool) → 3 ≡ numberOf (cond b admin user) → ⊥
 pin-spared true e = omega (arith, e)
 pin-spared false e = omega (arith, e)
 
@@ -139,6 +139,6 @@ unfolding outcome kept effectOf credentialsAfter
 outcome-stays i c l k random = go (rule i) (swOf i c l k)
   where
     go : (q : Rule) (sw : ℕ) → Stays c (ruled sw (keptBy q c k) (effectBy q c l k random) .card)
-    go (ofFiles t d) sw = split (λ (e : Effect). Stays c (e .card)) (eqb sw 0x9000) (λ y. did-stays c (d c l k)) (λ y. (refl, refl))
+    go (ofFiles t d) sw = split (λ (e : Effect). Stays c (e .card)) (eqb sw 0x9000) (λ y. did-stays c (d c k)) (λ y. (refl, refl))
     go (ofContents f t d) sw = split (λ (e : Effect). Stays c (e .card)) (eqb sw 0x9000) (λ y. did-stays (afterCode (f k) c k) (d c l k)) (λ y. (refl, refl))
     go (ofCredentials t d) sw = split (λ (e : Effect). Stays c (e .card)) (eqb sw 0x9000) (λ y. touched-stays c (d (logins c) (challenge c) k) random) (λ y. (refl, refl))

@@ -12,7 +12,7 @@ use borrow.Author.Tests.{eq-eqb, ne-eqb, leb-true, le-leb, lt-leb}
 use Rattle.files.specs.Words.{every, isZero}
 use Rattle.files.proofs.Checks.{clash, both}
 use Rattle.rules.specs.Words.{allOf}
-use Rattle.rules.specs.Sound.{digit, goodLength, goodPin}
+use Rattle.rules.specs.Sound.{digit, goodPinLength, goodPin}
 
 module _ (v : List ℕ) (len : ℕ) (places : length v ≡ 16) where
   abbrev zeros : Bool
@@ -37,11 +37,11 @@ module _ (v : List ℕ) (len : ℕ) (places : length v ≡ 16) where
       short : (len ≡ 16 → ⊥) → len ≤ 16 → eqb len 16 ≡ every (leb len 16 ∷ eqb (length (take len v)) 16 ∷ zeros ∷ [])
       short o l = rw (ne-eqb len 16 o, le-leb len 16 l, ne-eqb (length (take len v)) 16 (λ e. o (sym (front-length l) ∙ e)))
 
-  pub pin-length : goodLength len ≡ false → every (leb len 16 ∷ goodPin (take len v) ∷ zeros ∷ []) ≡ false
+  pub pin-length : goodPinLength len ≡ false → every (leb len 16 ∷ goodPin (take len v) ∷ zeros ∷ []) ≡ false
   unfolding goodPin
   pin-length e = by-cases (decLt 16 len) (λ l. rw (lt-leb len 16 l)) (λ l. rw (le-leb len 16 (omega (arith, l)), front-length (omega (arith, l)), e))
 
-  pub pin-kept : goodLength len ≡ true → every (leb len 16 ∷ goodPin (take len v) ∷ zeros ∷ []) ≡ (allOf digit (take len v) && zeros)
+  pub pin-kept : goodPinLength len ≡ true → every (leb len 16 ∷ goodPin (take len v) ∷ zeros ∷ []) ≡ (allOf digit (take len v) && zeros)
   unfolding goodPin
   pin-kept e =
       let l : len ≤ 16 = leb-true len 16 (both (leb 6 len) (leb len 16) e .1) in

@@ -6,9 +6,7 @@ ghost use mathlib.Core.Path.{_≡_};
 ghost use mathlib.Core.List.{_++_};
 ghost use Rattle.cipher.specs.KeyExpansion.{subWord};
 ghost use Rattle.cipher.specs.Words.{OnHalves};
-ghost use Rattle.cipher.specs.Circuit.{bits, sums, norm, inverses, products, outs};
-ghost use Rattle.cipher.specs.Circuit.{through, summing, norming, inverting, multiplying, gathering};
-ghost use Rattle.cipher.specs.Circuit.{Swapped, fives, threes, stacked, planes, firstOut, secondOut, thirdOut};
+ghost use Rattle.cipher.specs.Circuit.{bits, sums, norm, inverses, products, outs, through, summing, norming, inverting, multiplying, gathering, Swapped, fives, threes, stacked, planes, firstOut, secondOut, thirdOut};
 
 // The bits of a byte, the lowest first.
 pub(crate) struct Bits {

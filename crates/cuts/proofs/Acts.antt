@@ -17,7 +17,8 @@ use Rattle.rules.specs.Pins.{triesSw}
 use Rattle.rules.specs.Device.{challengeSw}
 use Rattle.rules.specs.Record.{recordFound}
 use Rattle.rules.specs.Code.{expected, presentsCode}
-use Rattle.rules.specs.List.{listed, role, Rule, ofFiles, ofContents, ofCredentials, rule}
+use Rattle.rules.specs.List.{listed, Rule, ofFiles, ofContents, ofCredentials, rule}
+use Rattle.demands.specs.Role.{role}
 use Rattle.rules.specs.Response.{fetches}
 use Rattle.rules.specs.Step.{checksOf, checks}
 use Rattle.demands.specs.Ledger.{Kind, other, presented, about, passes, kind, Tree, grown}
@@ -80,7 +81,7 @@ module _ (c : Card) (area : List ℕ) (h : sound c area ≡ true) (cmd : List �
 
   plan-kind : (w : Which) (r : Rule)
       → kindBy r (logins c) (challenge c) k w ≡ kindOfAct (act (codeBy r c k) (cond (passes (checksOf r c l k) k) (workBy r c l k) idle)) w
-  plan-kind w (ofFiles t d) = sym (either-kind nothing (passes (t c l k) k) (files (d c l k)) w refl)
+  plan-kind w (ofFiles t d) = sym (either-kind nothing (passes (t c k) k) (files (d c k)) w refl)
   plan-kind w (ofContents f t d) =
       code-kind (f k) w ∙ sym (either-kind (codeBy (ofContents f t d) c k) (passes (checksOf (ofContents f t d) c l k) k) (files (d c l k)) w refl)
   plan-kind w (ofCredentials t d) = go (passes (t (logins c) (challenge c) k) k)
@@ -97,9 +98,9 @@ module _ (c : Card) (area : List ℕ) (h : sound c area ≡ true) (cmd : List �
 
   module _ (t : Tree) (m : Matches (c .directory) (c .session .folder) t) where
     plan-tree : (r : Rule) → Row i r → grown (role i) (logins c) t k ≡ treeOfWork (cond (passes (checksOf r c l k) k) (workBy r c l k) idle) t
-    plan-tree (ofFiles s d) q = q .tree-is c area h t m k ∙ go (passes (s c l k) k)
+    plan-tree (ofFiles s d) q = q .tree-is c area h t m k ∙ go (passes (s c k) k)
       where
-        go : (b : Bool) → cond b (treeBy (d c l k) t) t ≡ treeOfWork (cond b (files (d c l k)) idle) t
+        go : (b : Bool) → cond b (treeBy (d c k) t) t ≡ treeOfWork (cond b (files (d c k)) idle) t
         go true = refl
         go false = refl
     plan-tree (ofContents f s d) q = q .tree-is (logins c) t k ∙ go (passes (checksOf (ofContents f s d) c l k) k)

@@ -25,7 +25,8 @@ use Rattle.rules.specs.Sound.{sound}
 use Rattle.rules.specs.Frame.{Command, framed}
 use Rattle.rules.specs.Effect.{Deed, turns, enters, shows, stores, appends, makes, founds, Touch, nothing, presents, changes, reloads, challenges, Effect}
 use Rattle.rules.specs.Record.{recordFound}
-use Rattle.rules.specs.List.{listed, role}
+use Rattle.rules.specs.List.{listed}
+use Rattle.demands.specs.Role.{role}
 use Rattle.rules.specs.Response.{fetches}
 use Rattle.rules.specs.Calls.{cleared}
 use Rattle.rules.proofs.Good.{sound-good}

@@ -42,7 +42,7 @@ use Rattle.rules.specs.State.{Which, numberOf, login, logins, withDirectory, wi
 use Rattle.rules.specs.Sound.{isKey, goodPin, goodValue, sound}
 use Rattle.rules.specs.Frame.{Command, framed}
 use Rattle.rules.specs.Effect.{Deed, turns, enters, shows, stores, appends, makes, founds, Touch, nothing, presents, changes, reloads, challenges, Effect}
-use Rattle.rules.specs.Binary.{fileOf}
+use Rattle.rules.specs.Target.{fileOf}
 use Rattle.rules.specs.Record.{recordFound}
 use Rattle.rules.specs.List.{listed}
 use Rattle.rules.specs.Response.{fetches}

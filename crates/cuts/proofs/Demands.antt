@@ -15,7 +15,8 @@ use Rattle.rules.specs.declared.Card.{Card}
 use Rattle.rules.specs.State.{Which, admin, user, numberOf, Login, login, marked, mode, waitCount, waiting}
 use Rattle.rules.specs.Sound.{isKey}
 use Rattle.rules.specs.Frame.{framed}
-use Rattle.rules.specs.List.{listed, role}
+use Rattle.rules.specs.List.{listed}
+use Rattle.demands.specs.Role.{role}
 use Rattle.rules.specs.Calls.{Order}
 use Rattle.rules.proofs.Checks.{one-of}
 use Rattle.rules.proofs.Good.{sound-good, responded, waits-back}

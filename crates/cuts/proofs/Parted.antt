@@ -23,7 +23,7 @@ use Rattle.files.proofs.Making.{makes}
 use Rattle.files.proofs.Stays.{own-written, other-written, old-file, old-extent, new-file}
 use Rattle.rules.specs.declared.Card.{Card}
 use Rattle.rules.specs.Sound.{sound}
-use Rattle.rules.specs.Binary.{fileOf}
+use Rattle.rules.specs.Target.{fileOf}
 use Rattle.rules.proofs.Good.{Good, sound-good, sound-parted}
 use Rattle.rules.proofs.Targets.{used-count, place-named}
 

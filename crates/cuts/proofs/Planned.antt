@@ -111,7 +111,7 @@ plan-by P i c area h k random f g n = go (rule i) (rows.row i)
     go : (r : Rule) → Row i r → Goal r
     go (ofFiles t d) q =
         both-ways (λ e w. P e (act nothing w)) (eqb (sw (ofFiles t d)) 0x9000)
-        (λ e. f nothing (no-code c) (d c l k) (q .fair c area h k (passed (t c l k) (passed (frameSw k ∷ classSw k ∷ first (t c l k) ∷ []) (eqb-true _ _ e) .1 .1 .0))) tt)
+        (λ e. f nothing (no-code c) (d c k) (q .fair c area h k (passed (t c k) (passed (frameSw k ∷ classSw k ∷ first (t c k) ∷ []) (eqb-true _ _ e) .1 .1 .0))) tt)
         (λ e. n nothing (no-code c) (sw (ofFiles t d)))
     go (ofContents s t d) q = coded-go (presentsCode (s k) (logins c) (challenge c) k) refl
       where

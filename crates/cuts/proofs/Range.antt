@@ -22,7 +22,7 @@ use Rattle.rules.specs.State.{Which, numberOf, login, logins}
 use Rattle.rules.specs.Sound.{sound}
 use Rattle.rules.specs.Frame.{framed}
 use Rattle.rules.specs.Effect.{Deed, turns, enters, shows, stores, appends, makes, founds, Touch, nothing, presents, changes, reloads, challenges, Effect}
-use Rattle.rules.specs.Binary.{fileOf}
+use Rattle.rules.specs.Target.{fileOf}
 use Rattle.rules.specs.List.{listed}
 use Rattle.rules.specs.Response.{fetches}
 use Rattle.rules.proofs.Good.{Good, sound-good, numbered, pin-short}

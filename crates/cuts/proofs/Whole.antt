@@ -34,13 +34,14 @@ use Rattle.rules.specs.State.{Which, numberOf, marked, mode, noCredential, logi
 use Rattle.rules.specs.State as state
 use Rattle.rules.specs.Sound.{isKey, sound, soundValue}
 use Rattle.rules.specs.Frame.{Command, framed}
-use Rattle.rules.specs.Effect.{Deed, turns, enters, shows, stores, appends, makes, founds, Touch, nothing, presents, changes, reloads, challenges, Effect, effect, answers}
-use Rattle.rules.specs.Binary.{fileOf}
+use Rattle.rules.specs.Effect.{Deed, turns, enters, shows, stores, appends, makes, founds, Touch, nothing, presents, changes, reloads, challenges, Effect, effect, answers, Stepped}
+use Rattle.rules.specs.Target.{fileOf}
 use Rattle.rules.specs.Record.{recordFound}
 use Rattle.rules.specs.Pins.{comparedAt}
 use Rattle.rules.specs.List.{listed}
-use Rattle.rules.specs.Response.{fetches}
-use Rattle.rules.specs.Step.{did, touched, outcome, Stepped, settled, atOnce, delivered, fetched, step}
+use Rattle.rules.specs.Response.{fetches, delivered, fetched}
+use Rattle.rules.specs.Effect.{Stepped}
+use Rattle.rules.specs.Step.{did, touched, outcome, settled, atOnce, step}
 use Rattle.rules.specs.Calls.{cleared}
 use Rattle.rules.proofs.Good.{Good, sound-good, numbered, pin-short}
 use Rattle.rules.proofs.Targets.{place-run}

@@ -20,7 +20,7 @@ use Rattle.rules.specs.Tries.{lowered, restored}
 use Rattle.rules.specs.State.{Which, numberOf, login, credential, withCredentials, withDirectory, withLogin, withValue}
 use Rattle.rules.specs.Sound.{sound}
 use Rattle.rules.specs.Effect.{Deed, turns, enters, shows, stores, appends, makes, founds, Touch, nothing, presents, changes, reloads, challenges}
-use Rattle.rules.specs.Binary.{fileOf}
+use Rattle.rules.specs.Target.{fileOf}
 use Rattle.rules.specs.Code.{keyAfter}
 use Rattle.rules.specs.Calls.{answer, cleared, reset}
 use Rattle.demands.specs.Held.{labelOf}

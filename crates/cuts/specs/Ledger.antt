@@ -7,7 +7,8 @@ use Rattle.files.specs.Words.{isZero}
 use Rattle.rules.specs.declared.Session.{Session}
 use Rattle.rules.specs.declared.Response.{Response}
 use Rattle.rules.specs.Frame.{Command, framed}
-use Rattle.rules.specs.List.{listed, role}
+use Rattle.rules.specs.List.{listed}
+use Rattle.demands.specs.Role.{role}
 use Rattle.rules.specs.Calls.{Order}
 use Rattle.demands.specs.Ledger.{Event, resets, Kind, other, right, wrong, changed, reloaded, ended, Tree, labelGiven, sizeOf, asksFolder, turnedTo, grown, Ledger, tells, booked, kindIn, servable, next, opened}
 

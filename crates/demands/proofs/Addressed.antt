@@ -7,8 +7,10 @@ use Rattle.rules.specs.declared.Card.{Card}
 use Rattle.rules.specs.declared.Ins.{Ins}
 use Rattle.rules.specs.declared.Ins.the-variants.{Select, ReadBinary, UpdateBinary, ReadRecord, UpdateRecord, AppendRecord, Verify, Authenticate, ChangePin, ReloadPin, CreateFile, GetChallenge, GetResponse, Unlisted}
 use Rattle.rules.specs.Frame.{Command}
-use Rattle.rules.specs.List.{listed, Role, touchesNothing, selects, readsBinary, readsRecord, writesBinary, writesRecord, appendsRecord, makesFile, presentsPin, presentsKey, changesPin, reloadsPin, asksChallenge, role}
-use Rattle.rules.specs.Binary.{target, binaryTarget}
+use Rattle.rules.specs.List.{listed}
+use Rattle.demands.specs.Role.{Role, touchesNothing, selects, readsBinary, readsRecord, writesBinary, writesRecord, appendsRecord, makesFile, presentsPin, presentsKey, changesPin, reloadsPin, asksChallenge, role}
+use Rattle.rules.specs.Binary.{binaryTarget}
+use Rattle.rules.specs.Target.{target}
 use Rattle.rules.specs.Record.{recordTarget}
 use Rattle.rules.proofs.Good.{Good}
 use Rattle.demands.specs.Held.{Named, binarySfi, recordSfi}

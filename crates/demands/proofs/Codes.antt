@@ -20,14 +20,15 @@ use Rattle.rules.specs.Words.{unless, orElse, first, same, byte}
 use Rattle.rules.specs.State.{admin, user, device, transport, numberOf, noCredential, credential, valueOf, Login, Logins, login, logins, challenge, withCredentials}
 use Rattle.rules.specs.Sound.{sound}
 use Rattle.rules.specs.Frame.{Command, framed, coded, frameSw, classSw}
-use Rattle.rules.specs.Effect.{Effect, answers}
+use Rattle.rules.specs.Effect.{Effect, answers, Stepped}
 use Rattle.rules.specs.Pins.{triesSw}
 use Rattle.rules.specs.Device.{challengeSw}
 use Rattle.rules.specs.Record.{recordFound}
 use Rattle.rules.specs.Code.{expected, agrees, codeSw, presentsCode, keyAfter, credentialsAfter}
-use Rattle.rules.specs.Response.{waitSw}
-use Rattle.rules.specs.List.{listed, isGetResponse, role, Rule, ofFiles, ofContents, ofCredentials, rule}
-use Rattle.rules.specs.Step.{checksOf, keptBy, effectBy, checks, effectOf, kept, swOf, ruled, outcome, Stepped, settled, atOnce, waits, step}
+use Rattle.rules.specs.Response.{waitSw, waits}
+use Rattle.rules.specs.List.{listed, isGetResponse, Rule, ofFiles, ofContents, ofCredentials, rule}
+use Rattle.demands.specs.Role.{role}
+use Rattle.rules.specs.Step.{checksOf, keptBy, effectBy, checks, effectOf, kept, swOf, ruled, outcome, settled, atOnce, step}
 use Rattle.rules.proofs.Checks.{passed}
 use Rattle.rules.proofs.Good.{sound-good}
 use Rattle.demands.specs.Framing.{NamedBy}

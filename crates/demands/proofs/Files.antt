@@ -31,10 +31,10 @@ use Rattle.rules.specs.State.{Which, withCredentials}
 use Rattle.rules.specs.Sound.{sound}
 use Rattle.rules.specs.Frame.{Command}
 use Rattle.rules.specs.Effect.{Deed, turns, enters, shows, stores, appends, makes, founds, Touch, nothing, presents, changes, reloads, challenges, Effect, effect, answers}
-use Rattle.rules.specs.Binary.{fileOf, opens}
+use Rattle.rules.specs.Target.{fileOf, opens}
 use Rattle.rules.specs.Record.{recordFound}
 use Rattle.rules.specs.Pins.{comparedAt, compared}
-use Rattle.rules.specs.List.{Role, role}
+use Rattle.demands.specs.Role.{Role, role}
 use Rattle.rules.specs.Step.{did, touched, outcome}
 use Rattle.rules.proofs.Good.{sound-good}
 use Rattle.demands.specs.Ledger.{Kind, right as rightly}

@@ -21,17 +21,18 @@ use Rattle.rules.specs.declared.Card.{Card}
 use Rattle.rules.specs.declared.Ins.{Ins}
 use Rattle.rules.specs.declared.Ins.the-variants.{Select, ReadBinary, UpdateBinary, ReadRecord, UpdateRecord, AppendRecord, Verify, Authenticate, ChangePin, ReloadPin, CreateFile, GetChallenge, GetResponse, Unlisted}
 use Rattle.rules.specs.Words.{unless, orElse, first, same, filled}
-use Rattle.rules.specs.Tries.{lowered, restored, countSw}
+use Rattle.rules.specs.Tries.{lowered, restored, countSw, tried}
 use Rattle.rules.specs.State.{Which, device, admin, transport, numberOf, noCredential, credential, Logins, login, logins, challenge, blankCard, credentialOf, withTries, withCredentials, withCredential, withDirectory, withSession, withResponse, withJournal, withLogin, withValue, withChallenge, withWaiting}
 use Rattle.rules.specs.Frame.{Command, framed, coded, frameSw, classSw}
 use Rattle.rules.specs.Effect.{Deed, turns, enters, shows, stores, appends, makes, founds, Touch, nothing, presents, changes, reloads, challenges, Effect, effect, answers}
 use Rattle.rules.specs.Select.{selectChecks}
-use Rattle.rules.specs.Binary.{target, readBinaryChecks, updateBinaryChecks}
+use Rattle.rules.specs.Binary.{readBinaryChecks, updateBinaryChecks}
+use Rattle.rules.specs.Target.{target}
 use Rattle.rules.specs.Record.{recordFound, readRecordChecks, updateRecordChecks, appendChecks}
 use Rattle.rules.specs.Pins.{comparedAt, compared, reloading, pinNamed, triesSw, verifyChecks, changeChecks, changeTouch, reloadChecks, reloadTouch}
 use Rattle.rules.specs.Device.{cryptogram, challengeSw, authenticateChecks, getChallengeTouch}
 use Rattle.rules.specs.Create.{creationRight, createChecks}
-use Rattle.rules.specs.Code.{expected, agrees, codeSw, presentsCode, triesAfter, keyAfter, credentialsAfter, afterCode}
+use Rattle.rules.specs.Code.{expected, agrees, codeSw, presentsCode, keyAfter, credentialsAfter, afterCode}
 use Rattle.rules.specs.List.{listed, Rule, ofFiles, ofContents, ofCredentials, rule}
 use Rattle.rules.specs.Step.{checksOf, did, touched, checks, effectOf, kept, ruled, outcome, settled, atOnce, step}
 use Rattle.rules.specs.Calls.{cleared}
@@ -229,7 +230,7 @@ module _ (which : Which) (c : Card) (x : Credential) (t : x .tries ≡ credentia
 
   -- ---- a clause for each command: its checks ask no value, and what it does is alike where the verdict is the same
   abbrev SameRule : Rule → Type 0
-  SameRule (ofFiles u f) = (l : Located) (k : Command) → (u e l k ≡ u c l k) × (f e l k ≡ f c l k)
+  SameRule (ofFiles u f) = (k : Command) → (u e k ≡ u c k) × (f e k ≡ f c k)
   SameRule (ofContents f u d) = (l : Located) (k : Command) → (u e l k ≡ u c l k) × (d e l k ≡ d c l k)
   SameRule (ofCredentials u f) =
       (ch : List ℕ) (k : Command) → (u (logins e) ch k ≡ u (logins c) ch k)
@@ -245,13 +246,13 @@ module _ (which : Which) (c : Card) (x : Credential) (t : x .tries ≡ credentia
 
   same-rule : (i : Ins) → SameRule (rule i)
   unfolding rule selectChecks target readBinaryChecks updateBinaryChecks readRecordChecks updateRecordChecks appendChecks createChecks creationRight
-  same-rule Select = λ l k. (refl, refl)
+  same-rule Select = λ k. (refl, refl)
   same-rule ReadBinary = λ l k. (refl, refl)
   same-rule UpdateBinary = λ l k. (refl, refl)
   same-rule ReadRecord = λ l k. (refl, refl)
   same-rule UpdateRecord = λ l k. (refl, refl)
   same-rule AppendRecord = λ l k. (refl, refl)
-  same-rule CreateFile = λ l k. (refl, refl)
+  same-rule CreateFile = λ k. (refl, refl)
   same-rule Verify = λ ch k. (verify-blind (logins c) (logins e) (tries-same which c x t l) (λ v. refl) k, verify-alike k (eqb (k .case) 1))
   same-rule Authenticate = λ ch k. (
     authenticate-blind (logins c) (logins e) (tries-same which c x t l) (λ v. refl) k ch,
@@ -325,7 +326,7 @@ module _ (which : Which) (c : Card) (x : Credential) (t : x .tries ≡ credentia
     keyed-both true h =
         subst (λ (z : Bool). ButValue which (keyed c true (agrees (logins c) (challenge c) k)) (keyed e true z)) (sym (agrees-same h))
         (put which c x t l (numberOf transport) (λ a. keyAfter a (agrees (logins c) (challenge c) k)) (c .session)
-        (λ a b n. ap (λ (z : Tries). triesAfter z (agrees (logins c) (challenge c) k)) n))
+        (λ a b n. ap (λ (z : Tries). tried z (agrees (logins c) (challenge c) k)) n))
     keyed-both false h = as-given which c x t l
 
     codes-alike : ButValue which (afterCode front c k) (afterCode front e k)
@@ -357,7 +358,7 @@ module _ (which : Which) (c : Card) (x : Credential) (t : x .tries ≡ credentia
         go : (r : Rule) → SameRule r → Verdict (kindBy r (logins c) (challenge c) k which) (kindBy r (logins e) (challenge c) k which)
             → EffectAlike which (ruledBy r c y k random) (ruledBy r e y k random)
         go (ofFiles u f) s q =
-            rw (s y k .0, s y k .1) (picked (EffectAlike which) (passes (u c y k) k) (λ h. deed-alike which c x t l (f c y k)) (none _))
+            rw (s k .0, s k .1) (picked (EffectAlike which) (passes (u c k) k) (λ h. deed-alike which c x t l (f c k)) (none _))
         go (ofContents f u g) s q =
             rw (s y k .0, s y k .1)
             (subst (λ (sw : ℕ). EffectAlike which (ruledBy (ofContents f u g) c y k random) (ruled sw (afterCode (f k) e k) (did (afterCode (f k) e k) (g c y k))))

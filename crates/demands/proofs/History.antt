@@ -32,14 +32,15 @@ use Rattle.rules.specs.declared.Ins.the-variants.{Select, CreateFile}
 use Rattle.rules.specs.Words.{first, same}
 use Rattle.rules.specs.State.{Which, device, admin, user, transport, Login, Logins, login, logins, challenge, withCredentials, withDirectory, withChallenge, withWaiting}
 use Rattle.rules.specs.Frame.{Command, framed, frameSw, classSw}
-use Rattle.rules.specs.Effect.{Deed, turns, enters, shows, stores, appends, makes, founds, Touch, nothing, presents, changes, reloads, challenges, Effect}
-use Rattle.rules.specs.Binary.{fileOf, opens}
+use Rattle.rules.specs.Effect.{Deed, turns, enters, shows, stores, appends, makes, founds, Touch, nothing, presents, changes, reloads, challenges, Effect, Stepped}
+use Rattle.rules.specs.Target.{fileOf, opens}
 use Rattle.rules.specs.Record.{recordFound}
 use Rattle.rules.specs.Select.{selected}
 use Rattle.rules.specs.Create.{creationRight}
-use Rattle.rules.specs.List.{listed, isGetResponse, Role, role, rule}
+use Rattle.rules.specs.List.{listed, isGetResponse, rule}
+use Rattle.demands.specs.Role.{Role, role}
 use Rattle.rules.specs.Response.{waitSw}
-use Rattle.rules.specs.Step.{did, touched, checks, effectOf, kept, swOf, ruled, outcome, Stepped, settled, atOnce, step}
+use Rattle.rules.specs.Step.{did, touched, checks, effectOf, kept, swOf, ruled, outcome, settled, atOnce, step}
 use Rattle.rules.specs.Calls.{answer, served, command}
 use Rattle.rules.proofs.Good.{sound-good, sound-parted}
 use Rattle.rules.proofs.Targets.{place-named}

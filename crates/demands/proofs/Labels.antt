@@ -22,7 +22,7 @@ use Rattle.files.proofs.Extents.{count-bytes, count-records, length-records, si
 use Rattle.rules.specs.declared.Card.{Card}
 use Rattle.rules.specs.State.{device, admin, user, logins}
 use Rattle.rules.specs.Frame.{Command, p}
-use Rattle.rules.specs.Binary.{opens}
+use Rattle.rules.specs.Target.{opens}
 use Rattle.rules.specs.Select.{selected, selectChecks, selectDeed}
 use Rattle.rules.specs.Effect.{Deed, turns, enters, shows, stores, appends, makes, founds}
 use Rattle.rules.specs.Create.{fileGiven, isFolder, folderGiven, goodFolderGiven, creationRight, createChecks, createDeed}

@@ -23,10 +23,11 @@ use Rattle.rules.specs.State.{logins, challenge, withCredentials}
 use Rattle.rules.specs.Sound.{sound}
 use Rattle.rules.specs.Frame.{Command}
 use Rattle.rules.specs.Effect.{Deed, turns, enters, shows, stores, appends, makes, founds, Touch, nothing, presents, changes, reloads, challenges, Effect}
-use Rattle.rules.specs.Binary.{fileOf}
+use Rattle.rules.specs.Target.{fileOf}
 use Rattle.rules.specs.Record.{recordFound}
 use Rattle.rules.specs.Code.{credentialsAfter, afterCode}
-use Rattle.rules.specs.List.{role, Rule, ofFiles, ofContents, ofCredentials, rule}
+use Rattle.rules.specs.List.{Rule, ofFiles, ofContents, ofCredentials, rule}
+use Rattle.demands.specs.Role.{role}
 use Rattle.rules.specs.Step.{checksOf, did, touched, checks, effectOf, kept, outcome}
 use Rattle.rules.proofs.Good.{sound-good}
 use Rattle.demands.specs.Ledger.{Tag, Tree, passes, grown}
@@ -113,8 +114,8 @@ module _ (i : Ins) (c : Card) (area : List ℕ) (h : sound c area ≡ true) (k :
       go : (r : Rule) → Row i r → Same (ruledBy r c (recordFound c area k) k random .card) (grown (role i) (logins c) w k)
       go (ofFiles t x) q =
           rw (q .tree-is c area h w m k)
-          (alike-told (λ (e : Effect) (y : Tree). Same (e .card) y) (passes (t c (recordFound c area k) k) k)
-          (λ e. deed-tree (c .credentials) (x c (recordFound c area k) k) (q .fair c area h k (all-passed (t c (recordFound c area k) k) k e))) m)
+          (alike-told (λ (e : Effect) (y : Tree). Same (e .card) y) (passes (t c k) k)
+          (λ e. deed-tree (c .credentials) (x c k) (q .fair c area h k (all-passed (t c k) k e))) m)
       go (ofContents f t x) q =
           rw (q .tree-is (logins c) w k)
           (split (λ (e : Effect). Same (e .card) w) (passes (checksOf (ofContents f t x) c (recordFound c area k) k) k)

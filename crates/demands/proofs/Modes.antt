@@ -11,15 +11,16 @@ use Rattle.rules.specs.declared.Ins.the-variants.{Select, ReadBinary, UpdateBin
 use Rattle.rules.specs.Words.{first, same}
 use Rattle.rules.specs.State.{logins, challenge}
 use Rattle.rules.specs.Frame.{Command, framed, frameSw, classSw}
-use Rattle.rules.specs.Effect.{Deed, turns, enters, shows, stores, appends, makes, founds, Touch, nothing, presents, changes, reloads, challenges, Effect, effect, answers}
+use Rattle.rules.specs.Effect.{Deed, turns, enters, shows, stores, appends, makes, founds, Touch, nothing, presents, changes, reloads, challenges, Effect, effect, answers, Stepped}
 use Rattle.rules.specs.Select.{selectChecks}
-use Rattle.rules.specs.Binary.{target, readBinaryChecks, updateBinaryChecks}
+use Rattle.rules.specs.Binary.{readBinaryChecks, updateBinaryChecks}
+use Rattle.rules.specs.Target.{target}
 use Rattle.rules.specs.Record.{recordFound, readRecordChecks, updateRecordChecks, appendChecks}
 use Rattle.rules.specs.Pins.{comparedAt}
 use Rattle.rules.specs.Create.{creationRight, createChecks}
 use Rattle.rules.specs.Code.{codeSw, credentialsAfter, afterCode}
 use Rattle.rules.specs.List.{listed, Rule, ofFiles, ofContents, ofCredentials, rule}
-use Rattle.rules.specs.Step.{checksOf, keptBy, did, touched, effectBy, checks, effectOf, kept, ruled, outcome, Stepped, settled, atOnce}
+use Rattle.rules.specs.Step.{checksOf, keptBy, did, touched, effectBy, checks, effectOf, kept, ruled, outcome, settled, atOnce}
 use Rattle.demands.specs.Response.{inMode0}
 
 -- the same effect on the card in mode 0
@@ -31,13 +32,13 @@ blindStep s = record { card = inMode0 (s .card); area = s .area; bytes = s .byte
 
 -- a rule that goes by the card: its checks and its deed
 abbrev Blind : Rule → Type 0
-Blind (ofFiles t d) = (c : Card) (l : Located) (k : Command) → (t (inMode0 c) l k ≡ t c l k) × (d (inMode0 c) l k ≡ d c l k)
+Blind (ofFiles t d) = (c : Card) (k : Command) → (t (inMode0 c) k ≡ t c k) × (d (inMode0 c) k ≡ d c k)
 Blind (ofContents f t d) = (c : Card) (l : Located) (k : Command) → (t (inMode0 c) l k ≡ t c l k) × (d (inMode0 c) l k ≡ d c l k)
 Blind (ofCredentials t d) = Unit
 
 blind : (i : Ins) → Blind (rule i)
 unfolding rule selectChecks readBinaryChecks updateBinaryChecks readRecordChecks updateRecordChecks appendChecks createChecks creationRight target
-blind Select = λ c l k. (refl, refl)
+blind Select = λ c k. (refl, refl)
 blind ReadBinary = λ c l k. (refl, refl)
 blind UpdateBinary = λ c l k. (refl, refl)
 blind ReadRecord = λ c l k. (refl, refl)
@@ -47,7 +48,7 @@ blind Verify = tt
 blind Authenticate = tt
 blind ChangePin = tt
 blind ReloadPin = tt
-blind CreateFile = λ c l k. (refl, refl)
+blind CreateFile = λ c k. (refl, refl)
 blind GetChallenge = tt
 blind GetResponse = tt
 blind Unlisted = tt
@@ -97,9 +98,9 @@ module _ (c : Card) where
         go : (r : Rule) → Blind r
             → ruled (swBy r (inMode0 c)) (keptBy r (inMode0 c) k) (effectBy r (inMode0 c) l k random) ≡ blindEffect (ruled (swBy r c) (keptBy r c k) (effectBy r c l k random))
         go (ofFiles t d) q =
-            ap₂ (λ (a : List ℕ) (x : Deed). ruled (first (frameSw k ∷ classSw k ∷ first a ∷ [])) (inMode0 c) (did (inMode0 c) x)) (q c l k .0) (q c l k .1)
-            ∙ ap (ruled (swBy (ofFiles t d) c) (inMode0 c)) (did-blind c (d c l k))
-            ∙ ruled-blind c (swBy (ofFiles t d) c) (did c (d c l k))
+            ap₂ (λ (a : List ℕ) (x : Deed). ruled (first (frameSw k ∷ classSw k ∷ first a ∷ [])) (inMode0 c) (did (inMode0 c) x)) (q c k .0) (q c k .1)
+            ∙ ap (ruled (swBy (ofFiles t d) c) (inMode0 c)) (did-blind c (d c k))
+            ∙ ruled-blind c (swBy (ofFiles t d) c) (did c (d c k))
         go (ofContents f t d) q =
             let v = afterCode (f k) c k in
             let s = swBy (ofContents f t d) c in

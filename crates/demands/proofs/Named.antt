@@ -23,7 +23,7 @@ use Rattle.files.proofs.Kept.{filed}
 use Rattle.rules.specs.declared.Card.{Card}
 use Rattle.rules.specs.State.{Which, device, admin, user, transport, numberOf, login}
 use Rattle.rules.specs.Sound.{sound}
-use Rattle.rules.specs.Binary.{target, opens}
+use Rattle.rules.specs.Target.{target, opens}
 use Rattle.rules.proofs.Checks.{one-of, either}
 use Rattle.rules.proofs.Good.{Good, sound-good}
 use Rattle.rules.proofs.Targets.{used-count, place-sound, fid-low, sfi-low, lies-there, target-low, target-lies}

@@ -26,9 +26,11 @@ use Rattle.rules.specs.declared.Ins.the-variants.{Select, ReadBinary, UpdateBin
 use Rattle.rules.specs.Words.{first}
 use Rattle.rules.specs.State.{mode, noSession, responseOf, withCredentials, withDirectory, withSession, withResponse, withJournal}
 use Rattle.rules.specs.Frame.{Command, framed, frameSw, classSw}
-use Rattle.rules.specs.Binary.{fileOf, opens, readBinaryFront}
+use Rattle.rules.specs.Binary.{readBinaryFront}
+use Rattle.rules.specs.Target.{fileOf, opens}
 use Rattle.rules.specs.Record.{recordFound, readRecordFront}
-use Rattle.rules.specs.List.{listed, role, rule}
+use Rattle.rules.specs.List.{listed, rule}
+use Rattle.demands.specs.Role.{role}
 use Rattle.rules.specs.Step.{checks, swOf, outcome}
 use Rattle.rules.proofs.Checks.{Passed, passed, holds}
 use Rattle.rules.proofs.Good.{Good, sound-good, sound-parted}

@@ -12,8 +12,9 @@ use Rattle.rules.specs.Words.{first, swBytes}
 use Rattle.rules.specs.State.{marked, mode, waitCount, waiting, withWaiting}
 use Rattle.rules.specs.Frame.{Command, framed}
 use Rattle.rules.specs.List.{listed, isGetResponse}
-use Rattle.rules.specs.Response.{waitSw, fetchCount, getResponseChecks, fetches}
-use Rattle.rules.specs.Step.{Stepped, atOnce, waits, delivered, gives, unchanged, fetched, step}
+use Rattle.rules.specs.Response.{waitSw, fetchCount, getResponseChecks, fetches, waits, delivered, gives, unchanged, fetched}
+use Rattle.rules.specs.Step.{atOnce, step}
+use Rattle.rules.specs.Effect.{Stepped}
 use Rattle.rules.specs.Calls.{replySize, randomSize, refused, served, cleared}
 use Rattle.demands.specs.Ledger.{Event, sent, resets, servable}
 use Rattle.demands.specs.Run.{World, world, SoundWorld, left, called, run}

@@ -32,13 +32,15 @@ use Rattle.rules.specs.Sound.{digit, isKey, goodPin, goodChallenge, sound}
 use Rattle.rules.specs.Frame.{Command, lc, coded, framed, frameSw, classSw}
 use Rattle.rules.specs.Effect.{Deed, turns, enters, shows, stores, appends, makes, founds, Touch, nothing, presents, changes, reloads, challenges, Effect, answers}
 use Rattle.rules.specs.Select.{selected, selectChecks, selectDeed}
-use Rattle.rules.specs.Binary.{target, fileOf, fileSw, opens, rightSw, askedSw, offset, binaryTarget, readCount, readBinaryChecks, updateBinaryChecks}
+use Rattle.rules.specs.Binary.{offset, binaryTarget, readCount, readBinaryChecks, updateBinaryChecks}
+use Rattle.rules.specs.Target.{target, fileOf, fileSw, opens, rightSw, codeAskedSw}
 use Rattle.rules.specs.Record.{recordTarget, recordFound, readRecordChecks, updateRecordChecks, appendChecks}
-use Rattle.rules.specs.Pins.{whichOf, pinNamed, pinGiven, triesSw, digitsSw, verifyChecks, changeChecks, reloadChecks}
+use Rattle.rules.specs.Pins.{pinNamed, pinGiven, triesSw, digitsSw, verifyChecks, changeChecks, reloadChecks}
 use Rattle.rules.specs.Device.{challengeSw, authenticateChecks, getChallengeChecks}
 use Rattle.rules.specs.Code.{expected, codeSw, credentialsAfter}
 use Rattle.rules.specs.Create.{isFolder, creationRight, createChecks, createDeed}
-use Rattle.rules.specs.List.{selects, makesFile, role, Rule, ofFiles, ofContents, ofCredentials, rule}
+use Rattle.rules.specs.List.{Rule, ofFiles, ofContents, ofCredentials, rule}
+use Rattle.demands.specs.Role.{selects, makesFile, role}
 use Rattle.rules.specs.Step.{checksOf, keptBy, did, touched, effectBy, checks, effectOf, kept, ruled, outcome}
 use Rattle.rules.proofs.Checks.{Passed, passed, passing, holds, one-of, ruled-by}
 use Rattle.rules.proofs.Good.{Lies, Good, sound-good}
@@ -157,12 +159,11 @@ Fair i c area k (makes f) = FairMake i c k f
 Fair i c area k (founds x) = FairFound i c k x
 
 -- a rule of files makes what its deed makes, where the checks pass, and its deed is fair
-pub record FileRow (i : Ins) (t : Card → Located → Command → List ℕ) (d : Card → Located → Command → Deed) : Type 0 where
+pub record FileRow (i : Ins) (t : Card → Command → List ℕ) (d : Card → Command → Deed) : Type 0 where
   pub left-is : (k : Command) (random : List ℕ) → challenged (role i) k random ≡ []
   pub tree-is : (c : Card) (area : List ℕ) → sound c area ≡ true → (w : Tree) → Matches (c .directory) (c .session .folder) w → (k : Command)
-      → grown (role i) (logins c) w k ≡ cond (passes (t c (recordFound c area k) k) k) (treeBy (d c (recordFound c area k) k) w) w
-  pub fair : (c : Card) (area : List ℕ) → sound c area ≡ true → (k : Command) → Passed (t c (recordFound c area k) k)
-      → Fair i c area k (d c (recordFound c area k) k)
+      → grown (role i) (logins c) w k ≡ cond (passes (t c k) k) (treeBy (d c k) w) w
+  pub fair : (c : Card) (area : List ℕ) → sound c area ≡ true → (k : Command) → Passed (t c k) → Fair i c area k (d c k)
 
 -- a rule of a file's contents is to the transport key what its code is, it makes nothing, and its deed is fair
 pub record ContentsRow (i : Ins) (f : Command → List ℕ) (t : Card → Located → Command → List ℕ) (d : Card → Located → Command → Deed) : Type 0 where
@@ -171,7 +172,7 @@ pub record ContentsRow (i : Ins) (f : Command → List ℕ) (t : Card → Locate
   pub tree-is : (l : Logins) (w : Tree) (k : Command) → grown (role i) l w k ≡ w
   pub makes-none : (c : Card) (l : Located) (k : Command) (w : Tree) → treeBy (d c l k) w ≡ w
   pub fair : (c : Card) (area : List ℕ) → sound c area ≡ true → (k : Command) (x : Kind)
-      → ((right : ℕ) → askedSw right k ≡ 0x9000 → asksCode right ≡ true → x ≡ rightly) → codeIn i c k ≡ x
+      → ((right : ℕ) → codeAskedSw right k ≡ 0x9000 → asksCode right ≡ true → x ≡ rightly) → codeIn i c k ≡ x
       → Passed (t c (recordFound c area k) k) → Fair i c area k (d c (recordFound c area k) k)
 
 -- a rule of credentials makes no file, and its touch is fair
@@ -192,8 +193,8 @@ binary-plain f h = let e : f .kind ≡ binary = eqb-true _ _ (holds (eqb (f .kin
 
 -- what the passed checks tell of the file that a command addresses
 module _ (x : Kind) (c : Card) (area : List ℕ) (h : sound c area ≡ true) (k : Command)
-    (by-code : (right : ℕ) → askedSw right k ≡ 0x9000 → asksCode right ≡ true → x ≡ rightly) where
-  entitled : (sfi byte : ℕ) → fileSw (target c sfi) ≡ 0x9000 → rightSw c byte ≡ 0x9000 → askedSw byte k ≡ 0x9000
+    (by-code : (right : ℕ) → codeAskedSw right k ≡ 0x9000 → asksCode right ≡ true → x ≡ rightly) where
+  entitled : (sfi byte : ℕ) → fileSw (target c sfi) ≡ 0x9000 → rightSw c byte ≡ 0x9000 → codeAskedSw byte k ≡ 0x9000
       → Entitled x c (target c sfi) (target c sfi) byte
   entitled sfi byte f r a = record {
     named-is = refl;
@@ -301,7 +302,7 @@ module _ (front : List ℕ) (l : Logins) (ch : List ℕ) (k : Command) (a : fram
       taken : (x y : Bool) (a b : Kind) → x ≡ true → y ≡ true → cond (x && y) a b ≡ a
       taken x y a b p q = rw (p, q)
 
-  code-asked : (right : ℕ) → askedSw right k ≡ 0x9000 → asksCode right ≡ true → codeBy front l ch k ≡ rightly
+  code-asked : (right : ℕ) → codeAskedSw right k ≡ 0x9000 → asksCode right ≡ true → codeBy front l ch k ≡ rightly
   code-asked right h e =
       one-of (not (asksCode right)) (coded k) (holds (not (asksCode right) || coded k) 0x6982 refl h)
       (λ z. clash (asksCode right) e (not-true (asksCode right) z)) code-right
@@ -311,7 +312,7 @@ pub try-left : (l : Login) → triesSw l ≡ 0x9000 → 1 ≤ l .tries .left
 try-left l h = not-zero (l .tries .left) (not-true (isZero (l .tries .left)) (holds (not (isZero (l .tries .left))) 0x6983 refl h))
 
 -- P2 names a PIN
-never-key : (b : Bool) → isKey (numberOf (whichOf b admin user)) ≡ false
+never-key : (b : Bool) → isKey (numberOf (cond b admin user)) ≡ false
 never-key true = refl
 never-key false = refl
 
@@ -379,11 +380,7 @@ digits-same (b ∷ d) = ap (λ (t : Bool). digit b && t) (digits-same d)
 
 -- the PIN that is named
 pin-same : (k : Command) → pinOf k ≡ pinNamed k
-pin-same k = go (eqb (k .p2) 0x00)
-  where
-    go : (b : Bool) → cond b admin user ≡ whichOf b admin user
-    go true = refl
-    go false = refl
+pin-same k = refl
 
 key-same : (l : Logins) (ch : List ℕ) (k : Command) → keyAsks (l device) ch k ≡ authenticateChecks l ch k
 unfolding keyAsks authenticateChecks
@@ -563,7 +560,7 @@ by-rule P i c area h k random f g n = ruled-by P i c (recordFound c area k) k ra
   where
     go : (r : Rule) → Row i r → frameSw k ≡ 0x9000 → classSw k ≡ 0x9000 → Passed (checksOf r c (recordFound c area k) k)
         → P (effectBy r c (recordFound c area k) k random)
-    go (ofFiles t d) q a b p = f (c .credentials) (sound-good c area h) (d c (recordFound c area k) k) (q .fair c area h k p)
+    go (ofFiles t d) q a b p = f (c .credentials) (sound-good c area h) (d c k) (q .fair c area h k p)
     go (ofContents s t d) q a b p =
         f (credentialsAfter (s k) c k) (coded-good c (sound-good c area h) (s k) k) (d c (recordFound c area k) k)
         (contents-fair i c area h k s t d q a b p)

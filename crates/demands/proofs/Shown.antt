@@ -24,13 +24,14 @@ use Rattle.rules.specs.declared.Response.{Response}
 use Rattle.rules.specs.Words.{same}
 use Rattle.rules.specs.State.{logins, mode, responseSize, waitCount, waiting, withCredentials, withWaiting}
 use Rattle.rules.specs.Frame.{Command, framed}
-use Rattle.rules.specs.Effect.{Deed, turns, enters, shows, stores, appends, makes, founds, Touch, nothing, presents, changes, reloads, challenges, Effect, answers}
-use Rattle.rules.specs.Binary.{fileOf, opens}
+use Rattle.rules.specs.Effect.{Deed, turns, enters, shows, stores, appends, makes, founds, Touch, nothing, presents, changes, reloads, challenges, Effect, answers, Stepped}
+use Rattle.rules.specs.Target.{fileOf, opens}
 use Rattle.rules.specs.Record.{recordFound}
 use Rattle.rules.specs.Pins.{comparedAt}
-use Rattle.rules.specs.List.{listed, role}
+use Rattle.rules.specs.List.{listed}
+use Rattle.demands.specs.Role.{role}
 use Rattle.rules.specs.Response.{fetchCount}
-use Rattle.rules.specs.Step.{did, touched, outcome, Stepped, settled, atOnce, step}
+use Rattle.rules.specs.Step.{did, touched, outcome, settled, atOnce, step}
 use Rattle.rules.proofs.Good.{sound-good, sound-parted, filled-back, said-short, waiting-set, waits-back}
 use Rattle.rules.proofs.Checks.{either}
 use Rattle.rules.proofs.Targets.{place-named}

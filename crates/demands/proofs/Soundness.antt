@@ -30,23 +30,23 @@ use Rattle.rules.specs.Tries.{goodLimit}
 use Rattle.rules.specs.State.{Which, whiches, numberOf, marked, login, logins, waitCount, waiting, withCredentials, withCurrent, withValue}
 use Rattle.rules.specs.Sound.{isKey, goodMode, goodPin, goodValue, soundValue, soundCredential, soundState, sound}
 use Rattle.rules.specs.Frame.{Command, caseOf, lePlace, framed}
-use Rattle.rules.specs.Effect.{Deed, turns, enters, shows, stores, appends, makes, founds, Touch, nothing, presents, changes, reloads, challenges, Effect, answers, storing}
-use Rattle.rules.specs.Binary.{fileOf}
+use Rattle.rules.specs.Effect.{Deed, turns, enters, shows, stores, appends, makes, founds, Touch, nothing, presents, changes, reloads, challenges, Effect, answers, storing, Stepped}
+use Rattle.rules.specs.Target.{fileOf}
 use Rattle.rules.specs.Record.{recordFound}
 use Rattle.rules.specs.Pins.{comparedAt}
-use Rattle.rules.specs.List.{listed, role}
+use Rattle.rules.specs.List.{listed}
+use Rattle.demands.specs.Role.{role}
 use Rattle.rules.specs.Response.{fetchCount}
-use Rattle.rules.specs.Step.{did, touched, outcome, Stepped, settled, atOnce, step}
+use Rattle.rules.specs.Step.{did, touched, outcome, settled, atOnce, step}
 use Rattle.rules.specs.Calls.{Order, goodGiven, goodOrder, fresh, cleared}
 use Rattle.rules.proofs.Checks.{either}
 use Rattle.rules.proofs.Good.{Good, for-which, sound-good, sound-parted, sound-both, tried-full, tried-lowered, value-sound, sayable, said-short, placed, turned, entered, founded-good, tried-in, logged, valued, challenged, responded, waited, ended, made}
 use Rattle.rules.proofs.Targets.{place-named, place-run, some-lies, lies-there}
 use Rattle.demands.specs.Soundness.{Bytes, StepSound, StepArea, StepReply, CommandSound, CommandArea, CommandReply, CommandCount, ResetSound, IssueServed, IssueArea, BlankUnsound}
 use Rattle.demands.proofs.Calls.{called-by, reset-by, issued-by}
-use Rattle.demands.specs.Ledger.{Label}
+use Rattle.demands.specs.Ledger.{Label, Kind}
 use Rattle.demands.proofs.Labels.{appended-label}
 use Rattle.demands.proofs.Rows.{FairStore, Fair, FairTouch, by-rule}
-use Rattle.demands.specs.Ledger.{Kind}
 use Rattle.demands.proofs.Delivered.{at-once-response, fetched-by, step-by}
 use Rattle.demands.proofs.Files.{treats, treated-parted}
 

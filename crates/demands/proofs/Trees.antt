@@ -18,7 +18,8 @@ use Rattle.rules.specs.declared.Ins.the-variants.{Select, ReadBinary, UpdateBin
 use Rattle.rules.specs.Words.{first}
 use Rattle.rules.specs.State.{device, admin, user, Logins}
 use Rattle.rules.specs.Frame.{Command, framed, frameSw, classSw}
-use Rattle.rules.specs.List.{listed, Role, touchesNothing, selects, readsBinary, readsRecord, writesBinary, writesRecord, appendsRecord, makesFile, presentsPin, presentsKey, changesPin, reloadsPin, asksChallenge, role}
+use Rattle.rules.specs.List.{listed}
+use Rattle.demands.specs.Role.{Role, touchesNothing, selects, readsBinary, readsRecord, writesBinary, writesRecord, appendsRecord, makesFile, presentsPin, presentsKey, changesPin, reloadsPin, asksChallenge, role}
 use Rattle.rules.specs.Calls.{Order}
 use Rattle.rules.proofs.Checks.{Passed, passed, holds}
 use Rattle.demands.specs.Ledger.{Event, sent, resets, Label, Tag, Tree, passes, noLabel, noTag, nth, tagIn, fidOf, fidOfTag, hasName, tagged, bitSet, satisfied, asksFolder, labelGiven, tagGiven, makeChecks, withMade, turnedTo, fidAsked, seekChecks, leadsTo, grown, Ledger, tells, selectSw, servable, next, tell, ledger}

@@ -26,14 +26,15 @@ use Rattle.rules.specs.Sound.{goodMode, goodPin, goodValue, soundValue, soundTr
 use Rattle.rules.specs.Frame.{Command, caseOf, framed, frameSw, classSw}
 use Rattle.rules.specs.List.{rows, find, listed, rule}
 use Rattle.rules.specs.Select.{selectChecks}
-use Rattle.rules.specs.Binary.{target, readCount, readBinaryFront, readBinaryChecks}
+use Rattle.rules.specs.Binary.{readCount, readBinaryFront, readBinaryChecks}
+use Rattle.rules.specs.Target.{target}
 use Rattle.rules.specs.Record.{recordFound}
 use Rattle.rules.specs.Create.{fileGiven, folderGiven, goodFolderGiven, creationRight, createChecks}
 use Rattle.rules.specs.Pins.{comparedAt, verifyChecks}
 use Rattle.rules.specs.Device.{authenticateChecks, getChallengeChecks}
-use Rattle.rules.specs.Response.{waitSw, getResponseChecks, fetches}
+use Rattle.rules.specs.Response.{waitSw, getResponseChecks, fetches, fetched}
 use Rattle.rules.specs.Code.{codeSw, presentsCode, credentialsAfter}
-use Rattle.rules.specs.Step.{checks, effectOf, kept, ruled, outcome, settled, atOnce, fetched, step}
+use Rattle.rules.specs.Step.{checks, effectOf, kept, ruled, outcome, settled, atOnce, step}
 use Rattle.rules.specs.Calls.{Done, Order, replySize, command, reset, goodOrder, fresh, issue}
 use Rattle.rules.proofs.Equal.{same-equal, equal-same}
 use Rattle.demands.specs.Ledger.{Event, sent, Page}

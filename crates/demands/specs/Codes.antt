@@ -9,8 +9,10 @@ use Rattle.rules.specs.Words.{byte}
 use Rattle.rules.specs.State.{Which, transport, logins, challenge, mode}
 use Rattle.rules.specs.Sound.{sound}
 use Rattle.rules.specs.Frame.{framed}
-use Rattle.rules.specs.List.{listed, role}
-use Rattle.rules.specs.Step.{Stepped, step}
+use Rattle.rules.specs.List.{listed}
+use Rattle.demands.specs.Role.{role}
+use Rattle.rules.specs.Step.{step}
+use Rattle.rules.specs.Effect.{Stepped}
 use Rattle.demands.specs.Ledger.{Kind, other, right, wrong, changed, reloaded, ended, kind}
 use Rattle.demands.specs.Held.{credentialNo, valueNo, leftNo, limitNo}
 

@@ -15,7 +15,7 @@ use Rattle.rules.specs.Words.{first, same}
 use Rattle.rules.specs.State.{Which, transport, numberOf, logins, challenge}
 use Rattle.rules.specs.Frame.{Command, framed, coded}
 use Rattle.rules.specs.Effect.{Touch, nothing, presents, changes, reloads, challenges}
-use Rattle.rules.specs.Binary.{fileOf, opens}
+use Rattle.rules.specs.Target.{fileOf, opens}
 use Rattle.rules.specs.Pins.{triesSw}
 use Rattle.rules.specs.Device.{challengeSw}
 use Rattle.rules.specs.Code.{expected}

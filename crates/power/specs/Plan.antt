@@ -19,7 +19,7 @@ use Rattle.rules.specs.Words.{same}
 use Rattle.rules.specs.State.{Which, transport, numberOf, login, logins, challenge}
 use Rattle.rules.specs.Frame.{Command, framed}
 use Rattle.rules.specs.Effect.{Deed, turns, enters, shows, stores, appends, makes, founds, Touch, nothing, presents, changes, reloads, challenges}
-use Rattle.rules.specs.Binary.{fileOf}
+use Rattle.rules.specs.Target.{fileOf}
 use Rattle.rules.specs.Record.{recordFound}
 use Rattle.rules.specs.Code.{expected, presentsCode}
 use Rattle.rules.specs.List.{listed, Rule, ofFiles, ofContents, ofCredentials, rule}
@@ -106,7 +106,7 @@ codeBy (ofContents f t d) c k =
 codeBy (ofCredentials t d) c k = nothing
 
 abbrev pub workBy : Rule → Card → Located → Command → Work
-workBy (ofFiles t d) c l k = files (d c l k)
+workBy (ofFiles t d) c l k = files (d c k)
 workBy (ofContents f t d) c l k = files (d c l k)
 workBy (ofCredentials t d) c l k = credentials (d (logins c) (challenge c) k)
 

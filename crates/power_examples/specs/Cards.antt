@@ -11,7 +11,7 @@ use Rattle.files.specs.Listed.{records}
 use Rattle.rules.specs.declared.Card.{Card}
 use Rattle.rules.specs.declared.Session.{Session}
 use Rattle.rules.specs.State.{Which, device, admin, user, transport, credential, valueOf, withSession, withDirectory, withLogin, withChallenge, withJournal, journalOf}
-use Rattle.rules.specs.Binary.{fileOf}
+use Rattle.rules.specs.Target.{fileOf}
 use Rattle.rules.specs.Calls.{Given, fresh}
 
 abbrev pub given : Which → Given

@@ -11,12 +11,13 @@ use Rattle.rules.specs.State.{transport, Logins, login, logins, challeng
 use Rattle.rules.specs.Frame.{Command, coded}
 use Rattle.rules.specs.Pins.{triesSw}
 use Rattle.rules.specs.Device.{challengeSw}
-use Rattle.rules.specs.Code.{agrees, codeSw, presentsCode, triesAfter, credentialsAfter, afterCode}
+use Rattle.rules.specs.Code.{agrees, codeSw, presentsCode, credentialsAfter, afterCode}
+use Rattle.rules.specs.Tries.{tried}
 use Rattle.rules.proofs.Checks.{passed, holds}
 use Rattle.rules.proofs.Good.{Good, Tried, tried-full, tried-lowered, tried-in, keyed, no-right}
 
 module _ (c : Card) (g : Good c) where
-  pub tried-after : (right : Bool) → Tried (triesAfter (login transport c .tries) right) (login transport c .held)
+  pub tried-after : (right : Bool) → Tried (tried (login transport c .tries) right) (login transport c .held)
   tried-after true = tried-full (login transport c .tries .limit) (login transport c .held) (tried-in c g transport .limit)
   tried-after false = rw (no-right c g) (tried-lowered _ _ (tried-in c g transport))
 

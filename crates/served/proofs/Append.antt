@@ -32,10 +32,11 @@ use Rattle.rules.specs.declared.Ins.the-variants.{AppendRecord}
 use Rattle.rules.specs.Words.{first}
 use Rattle.rules.specs.State.{withCredentials}
 use Rattle.rules.specs.Frame.{Command, framed, coded}
-use Rattle.rules.specs.Binary.{target, opens}
+use Rattle.rules.specs.Target.{target, opens}
 use Rattle.rules.specs.Record.{goodP2, recordTarget, appendFront, appendChecks, appendDeed, appending}
 use Rattle.rules.specs.List.{find, rows, rule}
-use Rattle.rules.specs.Step.{did, Stepped, step}
+use Rattle.rules.specs.Step.{did, step}
+use Rattle.rules.specs.Effect.{Stepped}
 use Rattle.rules.proofs.Checks.{passed, one-of}
 use Rattle.rules.proofs.Good.{sound-good}
 use Rattle.rules.proofs.Found as found

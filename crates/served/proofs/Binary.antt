@@ -24,10 +24,11 @@ use Rattle.rules.specs.Words.{unless, first}
 use Rattle.rules.specs.State.{withCurrent, withDirectory, withCredentials}
 use Rattle.rules.specs.Sound.{sound}
 use Rattle.rules.specs.Frame.{Command, framed, lc, coded}
-use Rattle.rules.specs.Effect.{Effect, storing}
-use Rattle.rules.specs.Binary.{target, opens, bySfi, offset, binarySfi, binaryTarget, binaryChecks, readCount, readBinaryFront, readBinaryChecks, readBinaryDeed, updateBinaryFront, updateBinaryChecks, updateBinaryDeed}
+use Rattle.rules.specs.Effect.{Effect, storing, Stepped}
+use Rattle.rules.specs.Binary.{bySfi, offset, binarySfi, binaryTarget, binaryChecks, readCount, readBinaryFront, readBinaryChecks, readBinaryDeed, updateBinaryFront, updateBinaryChecks, updateBinaryDeed}
+use Rattle.rules.specs.Target.{target, opens}
 use Rattle.rules.specs.List.{find, rows, rule}
-use Rattle.rules.specs.Step.{did, Stepped, step}
+use Rattle.rules.specs.Step.{did, step}
 use Rattle.rules.proofs.Checks.{one-of, either}
 use Rattle.demands.specs.Held.{fileNo, IsFile, bytesNo}
 use Rattle.demands.proofs.Named.{opens-asked, asked-opens}

@@ -15,8 +15,8 @@ use Rattle.rules.specs.declared.Credential.{Credential}
 use Rattle.rules.specs.Words.{unless, allOf, swBytes}
 use Rattle.rules.specs.Tries.{goodLimit, full}
 use Rattle.rules.specs.State.{Which, mode, device, admin, user, transport, numberOf, howManyRights, whiches, credentialOf, noCredential, marked}
-use Rattle.rules.specs.Sound.{digit, goodLength, goodPin, goodValue, sound}
-use Rattle.rules.specs.Binary.{opens}
+use Rattle.rules.specs.Sound.{digit, goodPinLength, goodPin, goodValue, sound}
+use Rattle.rules.specs.Target.{opens}
 use Rattle.rules.specs.Step.{step}
 use Rattle.rules.specs.Calls.{refused, served, Order, goodGiven, goodOrder, command, issue, reset}
 use Rattle.rules.proofs.Good.{for-which, filled-back, at-which, zero-at, waits-back}
@@ -87,7 +87,7 @@ reset-answers c area =
 pub pin-to : (d : List ℕ) → goodPin d ≡ true → GoodPin d
 unfolding goodPin
 pin-to d h =
-    let e = both (goodLength (length d)) (allOf digit d) h in
+    let e = both (goodPinLength (length d)) (allOf digit d) h in
     let q = both (leb 6 (length d)) (leb (length d) 16) (e .0) in (leb-true _ _ (q .0), leb-true _ _ (q .1), digits-to d (e .1))
 
 pub to-pin : (d : List ℕ) → GoodPin d → goodPin d ≡ true

@@ -32,11 +32,11 @@ use Rattle.rules.specs.Words.{unless, first, byte}
 use Rattle.rules.specs.State.{Which, device, admin, user, transport, numberOf}
 use Rattle.rules.specs.Sound.{sound}
 use Rattle.rules.specs.Frame.{Command, framed, p, lc}
-use Rattle.rules.specs.Binary.{opens}
-use Rattle.rules.specs.Effect.{makes, founds}
+use Rattle.rules.specs.Target.{opens}
+use Rattle.rules.specs.Effect.{makes, founds, Stepped}
 use Rattle.rules.specs.Create.{fileGiven, isFolder, folderGiven, goodFolderGiven, creationRight, createChecks, making, founding, createDeed}
 use Rattle.rules.specs.List.{find, rows, rule}
-use Rattle.rules.specs.Step.{did, checks, effectOf, kept, Stepped, step}
+use Rattle.rules.specs.Step.{did, checks, effectOf, kept, step}
 use Rattle.rules.proofs.Checks.{Passed, passed, one-of, either}
 use Rattle.rules.proofs.Good.{Good, sound-good}
 use Rattle.rules.proofs.Asked.{create-asked}

@@ -21,13 +21,13 @@ use Rattle.rules.specs.declared.Ins.the-variants.{Verify, ChangePin, ReloadPin,
 use Rattle.rules.specs.Words.{unless, first, allOf, same}
 use Rattle.rules.specs.Tries.{lowered, restored, countSw}
 use Rattle.rules.specs.State.{numberOf, mark, marked, noCredential, credential, login, loginAt, logins, challenge, credentialOf, withTries, withLoginAt, withValueAt}
-use Rattle.rules.specs.Sound.{digit, goodLength, goodChallenge, soundChallenge, sound}
+use Rattle.rules.specs.Sound.{digit, goodPinLength, goodChallenge, soundChallenge, sound}
 use Rattle.rules.specs.Frame.{Command, framed, p, lc}
-use Rattle.rules.specs.Effect.{Effect, answers as answered}
+use Rattle.rules.specs.Effect.{Effect, answers as answered, Stepped}
 use Rattle.rules.specs.Pins.{comparedAt, pinNamed, pinGiven, triesSw, digitsSw, heldSw, querySw, verifyChecks, changeChecks, reloadChecks}
 use Rattle.rules.specs.Device.{cryptogram, authenticateChecks, getChallengeChecks}
 use Rattle.rules.specs.List.{find, rows, rule}
-use Rattle.rules.specs.Step.{checks, effectOf, kept, Stepped, step}
+use Rattle.rules.specs.Step.{checks, effectOf, kept, step}
 use Rattle.rules.proofs.Checks.{one-of, either}
 use Rattle.rules.proofs.Good.{Good, sound-good, said-short, filled-back}
 use Rattle.rules.proofs.Equal.{same-equal, equal-same, cryptogram-is}
@@ -54,7 +54,7 @@ to-digits (b ∷ d) h =
 
 pub given-to : (k : Command) → pinGiven k ≡ true → (k .case ≡ 3) × (6 ≤ length (k .given)) × (length (k .given) ≤ 16)
 given-to k h =
-    let e = both (eqb (k .case) 3) (goodLength (lc k)) h in
+    let e = both (eqb (k .case) 3) (goodPinLength (lc k)) h in
     let q = both (leb 6 (lc k)) (leb (lc k) 16) (e .1) in (eqb-true _ _ (e .0), leb-true _ _ (q .0), leb-true _ _ (q .1))
 
 pub to-given : (k : Command) → (k .case ≡ 3) × (6 ≤ length (k .given)) × (length (k .given) ≤ 16) → pinGiven k ≡ true

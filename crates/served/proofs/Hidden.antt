@@ -19,8 +19,9 @@ use Rattle.rules.specs.Sound.{sound}
 use Rattle.rules.specs.Frame.{Command, framed}
 use Rattle.rules.specs.Record.{recordFound}
 use Rattle.rules.specs.List.{listed, rule}
-use Rattle.rules.specs.Response.{fetchCount, fetches}
-use Rattle.rules.specs.Step.{checks, kept, swOf, Stepped, gives, unchanged, fetchSw, fetched, step}
+use Rattle.rules.specs.Response.{fetchCount, fetches, gives, unchanged, fetchSw, fetched}
+use Rattle.rules.specs.Step.{checks, kept, swOf, step}
+use Rattle.rules.specs.Effect.{Stepped}
 use Rattle.rules.specs.Calls.{reset}
 use Rattle.rules.proofs.Checks.{one-of, either as one-or}
 use Rattle.demands.specs.Soundness.{Bytes}

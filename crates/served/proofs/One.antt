@@ -24,11 +24,12 @@ use Rattle.rules.specs.Words.{allOf, byte}
 use Rattle.rules.specs.State.{mode, waiting, withCredentials}
 use Rattle.rules.specs.Sound.{digit, goodChallenge, sound}
 use Rattle.rules.specs.Frame.{Command, framed, coded}
-use Rattle.rules.specs.Binary.{target, opens, bySfi}
+use Rattle.rules.specs.Binary.{bySfi}
+use Rattle.rules.specs.Target.{target, opens}
 use Rattle.rules.specs.Record.{goodP2, recordTarget, recordFound}
 use Rattle.rules.specs.Create.{isFolder, goodFolderGiven, creationRight}
 use Rattle.rules.specs.Pins.{pinGiven}
-use Rattle.rules.specs.Step.{Stepped}
+use Rattle.rules.specs.Effect.{Stepped}
 use Rattle.rules.proofs.Checks.{one-of, either}
 use Rattle.rules.proofs.Good.{sound-good, responded}
 use Rattle.rules.proofs.Targets.{not-zero}

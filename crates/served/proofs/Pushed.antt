@@ -12,7 +12,8 @@ use Rattle.files.proofs.Extents.{length-records}
 use Rattle.rules.specs.declared.Card.{Card}
 use Rattle.rules.specs.Sound.{sound}
 use Rattle.rules.specs.Frame.{framed}
-use Rattle.rules.specs.Step.{Stepped, step}
+use Rattle.rules.specs.Step.{step}
+use Rattle.rules.specs.Effect.{Stepped}
 use Rattle.rules.proofs.Good.{sound-good}
 use Rattle.rules.proofs.Targets.{place-shaped}
 use Rattle.demands.specs.Soundness.{Bytes}

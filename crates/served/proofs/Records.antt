@@ -28,11 +28,11 @@ use Rattle.rules.specs.Words.{first}
 use Rattle.rules.specs.State.{withCurrent, withDirectory, withCredentials}
 use Rattle.rules.specs.Sound.{sound}
 use Rattle.rules.specs.Frame.{Command, framed, lc, coded}
-use Rattle.rules.specs.Effect.{Effect, storing}
-use Rattle.rules.specs.Binary.{target, opens}
+use Rattle.rules.specs.Effect.{Effect, storing, Stepped}
+use Rattle.rules.specs.Target.{target, opens}
 use Rattle.rules.specs.Record.{goodP2, recordTarget, recordFound, recordLeSw, recordLcSw, recordChecks, readRecordFront, readRecordChecks, readRecordDeed, updateRecordFront, updateRecordChecks, updateRecordDeed}
 use Rattle.rules.specs.List.{find, rows, rule}
-use Rattle.rules.specs.Step.{did, Stepped, step}
+use Rattle.rules.specs.Step.{did, step}
 use Rattle.rules.proofs.Checks.{one-of, either}
 use Rattle.rules.proofs.Good.{sound-good}
 use Rattle.rules.proofs.Targets.{place-shaped}

@@ -16,8 +16,9 @@ use Rattle.rules.specs.Words.{unless, allOf}
 use Rattle.rules.specs.State.{mode, waiting}
 use Rattle.rules.specs.Sound.{sound}
 use Rattle.rules.specs.Frame.{Command, framed, p}
-use Rattle.rules.specs.Response.{waitSw, fetchCount, getResponseChecks}
-use Rattle.rules.specs.Step.{Stepped, gives, fetchSw, fetched, step}
+use Rattle.rules.specs.Response.{waitSw, fetchCount, getResponseChecks, gives, fetchSw, fetched}
+use Rattle.rules.specs.Step.{step}
+use Rattle.rules.specs.Effect.{Stepped}
 use Rattle.rules.proofs.Good.{sound-good, waiting-set}
 use Rattle.rules.proofs.Targets.{not-zero}
 use Rattle.demands.specs.Soundness.{Bytes}

@@ -16,10 +16,10 @@ use Rattle.rules.specs.declared.Card.{Card}
 use Rattle.rules.specs.declared.Ins.the-variants.{Select}
 use Rattle.rules.specs.Words.{unless, first}
 use Rattle.rules.specs.Frame.{Command, framed, p, lc}
-use Rattle.rules.specs.Effect.{Deed, turns, enters}
+use Rattle.rules.specs.Effect.{Deed, turns, enters, Stepped}
 use Rattle.rules.specs.Select.{root, fidGiven, selected, entered, selectChecks, selectDeed}
 use Rattle.rules.specs.List.{find, rows, rule}
-use Rattle.rules.specs.Step.{did, checks, effectOf, kept, Stepped, step}
+use Rattle.rules.specs.Step.{did, checks, effectOf, kept, step}
 use Rattle.rules.proofs.Good.{Good, sound-good}
 use Rattle.demands.proofs.Named.{the-fid, found-fid, the-folder, found-folder}
 use Rattle.served.specs.Left.{LeftIn, Left}

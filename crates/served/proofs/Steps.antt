@@ -18,12 +18,12 @@ use Rattle.rules.specs.Words.{unless, orElse, first}
 use Rattle.rules.specs.State.{marked, mode, waitCount, waiting, withSession, withCurrent}
 use Rattle.rules.specs.Sound.{sound}
 use Rattle.rules.specs.Frame.{Command, framed, classSw}
-use Rattle.rules.specs.Effect.{Effect, effect, answers}
+use Rattle.rules.specs.Effect.{Effect, effect, answers, Stepped}
 use Rattle.rules.specs.Record.{recordFound}
-use Rattle.rules.specs.Binary.{target, fileSw}
+use Rattle.rules.specs.Target.{target, fileSw}
 use Rattle.rules.specs.List.{listed, find, rows, isGetResponse}
-use Rattle.rules.specs.Response.{waitSw, fetches}
-use Rattle.rules.specs.Step.{checks, effectOf, kept, swOf, outcome, Stepped, settled, atOnce, delivered, step}
+use Rattle.rules.specs.Response.{waitSw, fetches, delivered}
+use Rattle.rules.specs.Step.{checks, effectOf, kept, swOf, outcome, settled, atOnce, step}
 use Rattle.rules.proofs.Checks.{one-of}
 use Rattle.rules.proofs.Good.{sound-good, responded, waiting-set}
 use Rattle.rules.proofs.Equal.{filled-behind}

@@ -1,6 +1,6 @@
 -- The transport key: what a code leaves of it, and that nothing else touches it.
 use Prim.Native.Nat.{ℕ, _-_, _≤_}
-use mathlib.Core.Bool.{Bool, true, false, _&&_, _||_}
+use mathlib.Core.Bool.{Bool, true, false, cond, _&&_, _||_}
 use mathlib.Core.List.{List, [], _∷_, _++_}
 use mathlib.Core.Logic.{_⊎_, inl, inr, ⊎-elim, by-cases}
 use mathlib.Core.Path.{_≡_, refl, sym, ap, _∙_, subst}
@@ -24,8 +24,8 @@ use Rattle.rules.specs.Tries.{restored}
 use Rattle.rules.specs.State.{admin, user, transport, numberOf, noCredential, credential, login, logins, challenge, credentialOf, withTries, mode}
 use Rattle.rules.specs.Sound.{sound}
 use Rattle.rules.specs.Frame.{Command, framed, classSw}
-use Rattle.rules.specs.Effect.{Deed, turns, enters, shows, stores, appends, makes, founds, Touch, nothing, presents, changes, reloads, challenges, Effect, answers}
-use Rattle.rules.specs.Pins.{triesSw, comparedAt, pinNamed, whichOf}
+use Rattle.rules.specs.Effect.{Deed, turns, enters, shows, stores, appends, makes, founds, Touch, nothing, presents, changes, reloads, challenges, Effect, answers, Stepped}
+use Rattle.rules.specs.Pins.{triesSw, comparedAt, pinNamed}
 use Rattle.rules.specs.Device.{challengeSw, authenticateTouch}
 use Rattle.rules.specs.Select.{selectDeed}
 use Rattle.rules.specs.Create.{createDeed}
@@ -34,7 +34,7 @@ use Rattle.rules.specs.Binary.{bySfi, readBinaryFront, readBinaryChecks, readBi
 use Rattle.rules.specs.Record.{goodP2, recordFound, readRecordFront, readRecordChecks, readRecordDeed, updateRecordFront, updateRecordChecks, updateRecordDeed, appendFront, appendChecks, appendDeed}
 use Rattle.rules.specs.List.{listed, find, rows, isGetResponse, ofContents, rule}
 use Rattle.rules.specs.Response.{fetches}
-use Rattle.rules.specs.Step.{checks, effectOf, kept, did, touched, outcome, Stepped, step}
+use Rattle.rules.specs.Step.{checks, effectOf, kept, did, touched, outcome, step}
 use Rattle.rules.proofs.Checks.{passed, holds, ruled-by}
 use Rattle.rules.proofs.Good.{sound-good, responded}
 use Rattle.demands.specs.Soundness.{Bytes}
@@ -91,7 +91,7 @@ touch-keeps c (challenges n) random o = refl
 pin-other : (k : Command) → numberOf (pinNamed k) ≡ 3 → ⊥
 pin-other k = go (isZero (k .p2))
   where
-    go : (b : Bool) → numberOf (whichOf b admin user) ≡ 3 → ⊥
+    go : (b : Bool) → numberOf (cond b admin user) ≡ 3 → ⊥
     go true e = omega (arith, e)
     go false e = omega (arith, e)
 

@@ -21,8 +21,7 @@ use Rattle.rules.specs.declared.Card.{Card}
 use Rattle.rules.specs.Words.{byte}
 use Rattle.rules.specs.State.{withCurrent, withDirectory}
 use Rattle.rules.specs.Sound.{sound}
-use Rattle.rules.specs.Effect.{storing}
-use Rattle.rules.specs.Step.{Stepped}
+use Rattle.rules.specs.Effect.{storing, Stepped}
 use Rattle.rules.proofs.Good.{sound-good}
 use Rattle.demands.specs.Held.{fileNo, IsFile, startNo, bytesNo, labelOf, labelNo}
 use Rattle.demands.specs.Ledger.{sizeOf}

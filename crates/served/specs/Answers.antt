@@ -13,7 +13,8 @@ use Rattle.rules.specs.declared.Card.{Card}
 use Rattle.rules.specs.Words.{byte}
 use Rattle.rules.specs.Sound.{sound}
 use Rattle.rules.specs.Frame.{Command, framed}
-use Rattle.rules.specs.Step.{Stepped, step}
+use Rattle.rules.specs.Step.{step}
+use Rattle.rules.specs.Effect.{Stepped}
 use Rattle.demands.specs.Soundness.{Bytes}
 use Rattle.demands.specs.Held.{fileNo, IsFile, startNo, bytesNo, IsFolder, tagNo, Within, Named, bytesUsed, recordsNo, valueNo, leftNo, limitNo, rightNo, Opens, AsksCode, MayCreate, labelOf, labelNo, byP1, binarySfi, recordSfi, heldOn}
 use Rattle.demands.specs.Ledger.{Label, labelGiven, tagGiven, sizeOf, sfiOf, fidOf, fidOfTag, lcSent, codeSent, codeOf}

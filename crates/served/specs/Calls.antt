@@ -12,8 +12,9 @@ use Rattle.rules.specs.declared.Answer.{Answer}
 use Rattle.rules.specs.State.{Which, device, admin, user, transport, numberOf, blankCard}
 use Rattle.rules.specs.Sound.{sound}
 use Rattle.rules.specs.Frame.{Command, framed}
-use Rattle.rules.specs.Binary.{rightSw}
-use Rattle.rules.specs.Step.{Stepped, step}
+use Rattle.rules.specs.Target.{rightSw}
+use Rattle.rules.specs.Step.{step}
+use Rattle.rules.specs.Effect.{Stepped}
 use Rattle.rules.specs.Calls.{Done, Order, Issued, command, issue, reset}
 use Rattle.demands.specs.Ledger.{Event, ledger, heldIn}
 use Rattle.demands.specs.Framing.{EitherClass}

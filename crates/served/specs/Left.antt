@@ -6,7 +6,7 @@ use mathlib.Core.Path.{_≡_}
 use lib.ListN.{length, take, drop, set, replicate}
 use Rattle.rules.specs.declared.Card.{Card}
 use Rattle.rules.specs.Words.{byte}
-use Rattle.rules.specs.Step.{Stepped}
+use Rattle.rules.specs.Effect.{Stepped}
 use Rattle.demands.specs.Held.{fileNo, startNo, bytesNo, credentialNo, valueNo, leftNo, limitNo, rightNo, labelOf, labelNo}
 use Rattle.demands.specs.Ledger.{sizeOf}
 

@@ -5,7 +5,7 @@ use mathlib.Core.List.{List}
 use mathlib.Core.Path.{_≡_}
 use Rattle.rules.specs.declared.Card.{Card}
 use Rattle.rules.specs.Sound.{sound}
-use Rattle.rules.specs.Step.{Stepped}
+use Rattle.rules.specs.Effect.{Stepped}
 use Rattle.served.specs.Left.{waiting}
 use Rattle.served.specs.Answers.{Select, ReadBinary, UpdateBinary, ReadRecord, UpdateRecord, AppendRecord, Verify, Authenticate, ChangePin, ReloadPin, CreateFile, GetChallenge, GetResponse}
 

@@ -6,7 +6,8 @@ use mathlib.Core.Path.{_≡_}
 use lib.ListN.{length, take}
 use Rattle.rules.specs.declared.Card.{Card}
 use Rattle.rules.specs.Sound.{sound}
-use Rattle.rules.specs.Step.{Stepped, step}
+use Rattle.rules.specs.Step.{step}
+use Rattle.rules.specs.Effect.{Stepped}
 use Rattle.demands.specs.Soundness.{Bytes}
 use Rattle.demands.specs.Held.{fileNo, Named, bytesUsed, recordsNo, leftNo, limitNo, Opens, AsksCode, labelNo, heldOn}
 use Rattle.demands.specs.Ledger.{sizeOf}

@@ -7,7 +7,8 @@ use lib.ListN.{length}
 use Rattle.rules.specs.declared.Card.{Card}
 use Rattle.rules.specs.Sound.{sound}
 use Rattle.rules.specs.Frame.{framed}
-use Rattle.rules.specs.Step.{Stepped, step}
+use Rattle.rules.specs.Step.{step}
+use Rattle.rules.specs.Effect.{Stepped}
 use Rattle.demands.specs.Soundness.{Bytes}
 use Rattle.demands.specs.Held.{valueNo, leftNo, limitNo, rightNo}
 use Rattle.served.specs.Left.{withKeyTries, Refused}

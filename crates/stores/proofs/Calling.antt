@@ -18,7 +18,8 @@ use Rattle.rules.specs.Words.{unless, orElse, first, same, byte, filled}
 use Rattle.rules.specs.State.{transport, valueOf, credential, login, logins, loginAt, challenge, mode}
 use Rattle.rules.specs.Frame.{Command, lcBefore, framed, frameSw, classSw, coded}
 use Rattle.rules.specs.Select.{selectChecks}
-use Rattle.rules.specs.Binary.{target, readCount, readBinaryChecks, updateBinaryChecks}
+use Rattle.rules.specs.Binary.{readCount, readBinaryChecks, updateBinaryChecks}
+use Rattle.rules.specs.Target.{target}
 use Rattle.rules.specs.Record.{recordFound, readRecordChecks, updateRecordChecks, appendChecks}
 use Rattle.rules.specs.Pins.{triesSw, verifyChecks, changeChecks, reloadChecks}
 use Rattle.rules.specs.Device.{challengeSw, authenticateChecks, getChallengeChecks}
@@ -102,8 +103,8 @@ module _ (c : Card) (l : Located) (k : Command) where
   plain-by : (q : Rule) → (takesCode q && coded k) ≡ false
       → storesIf (first (frameSw k ∷ classSw k ∷ first (frontOf q k) ∷ [])) (storesIf (first (restOf q c l k)) (work q)) ≡ storesFor c (plan q)
   plain-by (ofFiles t d) e =
-      all-gates (frameSw k ∷ classSw k ∷ 0x9000 ∷ []) (storesIf (first (t c l k)) (work (ofFiles t d)))
-      ∙ sym (worked (swBy (ofFiles t d)) (workBy (ofFiles t d) c l k) ∙ all-gates (frameSw k ∷ classSw k ∷ first (t c l k) ∷ []) (work (ofFiles t d)))
+      all-gates (frameSw k ∷ classSw k ∷ 0x9000 ∷ []) (storesIf (first (t c k)) (work (ofFiles t d)))
+      ∙ sym (worked (swBy (ofFiles t d)) (workBy (ofFiles t d) c l k) ∙ all-gates (frameSw k ∷ classSw k ∷ first (t c k) ∷ []) (work (ofFiles t d)))
   plain-by (ofContents f t d) e =
       all-gates (frameSw k ∷ classSw k ∷ first (f k) ∷ []) (storesIf (first (t c l k)) (work (ofContents f t d)))
       ∙ ap (λ (sw : ℕ). storesIf (frameSw k) (storesIf (classSw k) (storesIf (first (f k)) (storesIf sw (storesIf (first (t c l k)) (work (ofContents f t d))))))) (sym (no-check e))

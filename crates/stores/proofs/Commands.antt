@@ -26,7 +26,7 @@ use Rattle.rules.specs.State.{Which, numberOf, logins, loginAt, login}
 use Rattle.rules.specs.Frame.{Command}
 use Rattle.rules.specs.Effect.{enters, turns}
 use Rattle.rules.specs.Select.{selected, entered, selectChecks, selectDeed}
-use Rattle.rules.specs.Binary.{fileOf}
+use Rattle.rules.specs.Target.{fileOf}
 use Rattle.rules.specs.Record.{recordTarget, recordFound, updateRecordChecks, appendChecks}
 use Rattle.rules.specs.Pins.{pinNamed, verifyChecks, verifyTouch}
 use Rattle.rules.specs.Create.{fileGiven, isFolder, folderGiven, createChecks, createDeed}

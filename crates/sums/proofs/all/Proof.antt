@@ -47,8 +47,7 @@ use denote.Exit.{yes}
 use Rattle.sums.specs.declared.Alarm.{Alarm}
 use Rattle.sums.specs.declared.Totals.{Totals}
 use Rattle.sums.specs.declared.Summed.{Summed}
-use Rattle.sums.specs.Kept.{answer, sumOf}
-use Rattle.sums.specs.Kept.{summed as summedOf}
+use Rattle.sums.specs.Kept.{answer, sumOf, summed as summedOf}
 use Rattle.sums.proofs.Adding.{list-taken}
 use Rattle.sums.proofs.Alarm as S
 use Rattle.sums.proofs.Alarm.Laws as S′

@@ -51,8 +51,7 @@ use Rattle.files.specs.Words.{Bounded}
 use Rattle.sums.specs.declared.Alarm.{Alarm}
 use Rattle.sums.specs.declared.Totals.{Totals}
 use Rattle.sums.specs.declared.Summed.{Summed}
-use Rattle.sums.specs.Kept.{plus, sumOf, taken, summed}
-use Rattle.sums.specs.Kept.{answered as answeredOf}
+use Rattle.sums.specs.Kept.{plus, sumOf, taken, summed, answered as answeredOf}
 use Rattle.sums.proofs.Adding.{sum-more, sum-taken}
 use Rattle.sums.proofs.Alarm as S
 use Rattle.sums.proofs.Alarm.Laws as S′

@@ -7,7 +7,7 @@ use Rattle.rules.specs.State.{transport, login, challenge}
 use Rattle.rules.specs.declared.Tries.{Tries}
 use Rattle.rules.specs.Pins.{triesSw}
 use Rattle.rules.specs.Device.{challengeSw}
-use Rattle.card.specs.Credentials.{tried}
+use Rattle.rules.specs.Tries.{tried}
 use Rattle.card.specs.Head.{codedOf}
 use Rattle.card.specs.Coded.{heardSo}
 use Rattle.card.proofs.Hearing.{no-code, refused-code, presented-code}
