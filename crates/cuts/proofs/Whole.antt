@@ -40,7 +40,6 @@ use Rattle.rules.specs.Record.{recordFound}
 use Rattle.rules.specs.Pins.{comparedAt}
 use Rattle.rules.specs.List.{listed}
 use Rattle.rules.specs.Response.{fetches, delivered, fetched}
-use Rattle.rules.specs.Effect.{Stepped}
 use Rattle.rules.specs.Step.{did, touched, outcome, settled, atOnce, step}
 use Rattle.rules.specs.Calls.{cleared}
 use Rattle.rules.proofs.Good.{Good, sound-good, numbered, pin-short}
