@@ -3,10 +3,8 @@ use Prim.Native.Nat.{ℕ}
 use mathlib.Core.Bool.{Bool}
 use mathlib.Core.List.{List}
 use Rattle.files.specs.declared.File.{File}
-use Rattle.files.specs.declared.Directory.{Directory}
 use Rattle.files.specs.declared.FileAnswer.{FileAnswer}
-use Rattle.files.specs.declared.DirectoryAnswer.{DirectoryAnswer}
-use Rattle.files.specs.Part.{Reading, Writing, FileWriting, DirectoryWriting}
+use Rattle.files.specs.Part.{Reading, Writing, FileWriting}
 use Rattle.answers.specs.Files.{Files}
 use Rattle.answers.proofs.Laws.{Same, one-answer, returned, bounded, with-lent}
 
@@ -22,10 +20,6 @@ module _ {served : Bool} {xs : List ℕ} {at : ℕ} {ys l l′ : List ℕ} where
       → FileWriting served new old xs at ys r l → FileWriting served new old xs at ys r′ l′ → Same r r′ l l′
   file-writing p q = with-lent (p .answer-is) (q .answer-is) (p .left-is) (q .left-is)
 
-  directory-writing : {new old : Directory} {r r′ : DirectoryAnswer}
-      → DirectoryWriting served new old xs at ys r l → DirectoryWriting served new old xs at ys r′ l′ → Same r r′ l l′
-  directory-writing p q = with-lent (p .answer-is) (q .answer-is) (p .left-is) (q .left-is)
-
 -- each answer is written out: the value returned, and a place for each parameter, tt where nothing can change
 pub files : Files
 files = record {
@@ -38,6 +32,8 @@ files = record {
   state-no-files = λ κs a x y. returned;
   state-added = λ κs a x y. returned;
   state-added-folder = λ κs a x y. returned;
+  state-at-place = λ κs a x y. returned;
+  state-placed = λ κs a x y. returned;
   and-or-both = λ κs a x y. returned;
   and-or-either = λ κs a x y. returned;
   numbers-wide = λ κs a x y. bounded;
@@ -61,7 +57,7 @@ files = record {
   places-start = λ κs a x y. bounded;
   places-end = λ κs a x y. bounded;
   places-is-place = λ κs a x y. returned;
-  places-extent = λ κs a x y. returned;
+  places-addressed = λ κs a x y. returned;
   find-find-fid = λ κs a x y. returned;
   find-find-sfi = λ κs a x y. returned;
   find-find-folder = λ κs a x y. returned;
@@ -89,13 +85,13 @@ files = record {
   create-room = λ κs a x y. returned;
   create-fid-unused = λ κs a x y. returned;
   create-folder-room = λ κs a x y. returned;
-  create-create-folder = λ κs a x y. returned;
   sound-is-sound = λ κs a x y. returned;
-  area-read-binary = λ κs a x y p q i. let z = reading p q i in (z .0, (tt, (tt, (tt, (tt, (tt, (z .1, tt)))))));
-  area-update-binary = λ κs a x y p q i. let z = writing p q i in (z .0, (tt, (tt, (z .1, (tt, (tt, tt))))));
+  area-read-binary = λ κs a x y p q i. let z = reading p q i in (z .0, (tt, (tt, (tt, (tt, (z .1, tt))))));
+  area-update-binary = λ κs a x y p q i. let z = writing p q i in (z .0, (tt, (z .1, (tt, (tt, tt)))));
   area-locate = λ κs a x y. returned;
-  area-read-record = λ κs a x y p q i. let z = reading p q i in (z .0, (tt, (tt, (tt, (tt, (z .1, tt))))));
-  area-update-record = λ κs a x y p q i. let z = writing p q i in (z .0, (tt, (tt, (z .1, (tt, (tt, tt))))));
-  area-append-record = λ κs a x y p q i. let z = directory-writing p q i in (z .0, (tt, (tt, (z .1, (tt, tt)))));
-  area-create-file = λ κs a x y p q i. let z = directory-writing p q i in (z .0, (tt, (tt, (z .1, tt))));
+  area-locate-in = λ κs a x y. returned;
+  area-read-record = λ κs a x y p q i. let z = reading p q i in (z .0, (tt, (tt, (tt, (z .1, tt)))));
+  area-update-record = λ κs a x y p q i. let z = writing p q i in (z .0, (tt, (z .1, (tt, (tt, tt)))));
+  area-append-record = λ κs a x y p q i. let z = file-writing p q i in (z .0, (tt, (z .1, (tt, tt))));
+  area-clear = λ κs a x y p q i. let z = writing p q i in (z .0, (tt, (z .1, tt)));
 }

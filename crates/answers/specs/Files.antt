@@ -12,6 +12,8 @@ pub record Files : Type 0 where
   pub state-no-files : OneAnswer files.state.no_files.ended files.state.no_files.Reads.Learnt
   pub state-added : OneAnswer files.state.added.ended files.state.added.Reads.Learnt
   pub state-added-folder : OneAnswer files.state.added_folder.ended files.state.added_folder.Reads.Learnt
+  pub state-at-place : OneAnswer files.state.at_place.ended files.state.at_place.Reads.Learnt
+  pub state-placed : OneAnswer files.state.placed.ended files.state.placed.Reads.Learnt
   pub and-or-both : OneAnswer files.and_or.both.ended files.and_or.both.Reads.Learnt
   pub and-or-either : OneAnswer files.and_or.either.ended files.and_or.either.Reads.Learnt
   pub numbers-wide : OneAnswer files.numbers.wide.ended files.numbers.wide.Reads.Learnt
@@ -35,7 +37,7 @@ pub record Files : Type 0 where
   pub places-start : OneAnswer files.places.start.ended files.places.start.Reads.Learnt
   pub places-end : OneAnswer files.places.end.ended files.places.end.Reads.Learnt
   pub places-is-place : OneAnswer files.places.is_place.ended files.places.is_place.Reads.Learnt
-  pub places-extent : OneAnswer files.places.extent.ended files.places.extent.Reads.Learnt
+  pub places-addressed : OneAnswer files.places.addressed.ended files.places.addressed.Reads.Learnt
   pub find-find-fid : OneAnswer files.find.find_fid.ended files.find.find_fid.Reads.Learnt
   pub find-find-sfi : OneAnswer files.find.find_sfi.ended files.find.find_sfi.Reads.Learnt
   pub find-find-folder : OneAnswer files.find.find_folder.ended files.find.find_folder.Reads.Learnt
@@ -63,12 +65,12 @@ pub record Files : Type 0 where
   pub create-room : OneAnswer files.create.room.ended files.create.room.Reads.Learnt
   pub create-fid-unused : OneAnswer files.create.fid_unused.ended files.create.fid_unused.Reads.Learnt
   pub create-folder-room : OneAnswer files.create.folder_room.ended files.create.folder_room.Reads.Learnt
-  pub create-create-folder : OneAnswer files.create.create_folder.ended files.create.create_folder.Reads.Learnt
   pub sound-is-sound : OneAnswer files.sound.is_sound.ended files.sound.is_sound.Reads.Learnt
   pub area-read-binary : OneAnswer files.area.read_binary.ended files.area.read_binary.Reads.Learnt
   pub area-update-binary : OneAnswer files.area.update_binary.ended files.area.update_binary.Reads.Learnt
   pub area-locate : OneAnswer files.area.locate.ended files.area.locate.Reads.Learnt
+  pub area-locate-in : OneAnswer files.area.locate_in.ended files.area.locate_in.Reads.Learnt
   pub area-read-record : OneAnswer files.area.read_record.ended files.area.read_record.Reads.Learnt
   pub area-update-record : OneAnswer files.area.update_record.ended files.area.update_record.Reads.Learnt
   pub area-append-record : OneAnswer files.area.append_record.ended files.area.append_record.Reads.Learnt
-  pub area-create-file : OneAnswer files.area.create_file.ended files.area.create_file.Reads.Learnt
+  pub area-clear : OneAnswer files.area.clear.ended files.area.clear.Reads.Learnt

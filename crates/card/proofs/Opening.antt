@@ -37,13 +37,13 @@ use Rattle.card.proofs.Sparing.{same-left, keyed, did-keyed, ruled-keye
 
 -- ---- checks in a row: the first two, and then the others
 module _ (a b own : ℕ) where
-  framed-on : orElse a b ≡ 0x9000 → orElse a (orElse b own) ≡ own
+  pub framed-on : orElse a b ≡ 0x9000 → orElse a (orElse b own) ≡ own
   unfolding orElse
   framed-on h =
       let p = passed (a ∷ b ∷ []) h in
       rw (eq-eqb a 0x9000 (p .0), eq-eqb b 0x9000 (p .1 .0))
 
-  framed-off : (orElse a b ≡ 0x9000 → ⊥) → orElse a (orElse b own) ≡ orElse a b
+  pub framed-off : (orElse a b ≡ 0x9000 → ⊥) → orElse a (orElse b own) ≡ orElse a b
   unfolding orElse
   framed-off h =
       split (λ z. z ≡ orElse a b) (eqb a 0x9000)

@@ -2,13 +2,15 @@
 ghost use mathlib.Core.Path.{_≡_};
 ghost use mathlib.Core.Bool.{_&&_};
 ghost use mathlib.Core.List.{[]};
+ghost use Rattle.rules.specs.declared.Card.{Card};
 ghost use Rattle.rules.specs.Words.{orElse, first};
 ghost use Rattle.rules.specs.State.{valueOf, credential, logins, challenge};
 ghost use Rattle.rules.specs.Frame.{frameSw, classSw};
 ghost use Rattle.rules.specs.List.{rule};
 ghost use Rattle.rules.specs.Code.{presentsCode};
 ghost use Rattle.card.specs.Head.{codedOf, commandOf};
-ghost use Rattle.card.specs.Coded.{takesCode, front, codeGiven, heardSo, Hears, Opens};
+ghost use Rattle.card.specs.Parts.{codeUnder};
+ghost use Rattle.card.specs.Coded.{takesCode, front, codeGiven, heardSo, Hears};
 use crate::Header;
 use crate::Heard;
 use crate::binary::binary_p_sw;
@@ -30,7 +32,9 @@ use crate::words::unless;
 use codes::mac;
 use files::and_or::both;
 use rules::Card;
+use rules::Credential;
 use rules::Ins;
+use rules::Session;
 use rules::TRANSPORT;
 
 // Those that read, update and append.
@@ -90,14 +94,21 @@ pub fn presents_code(ins: Ins, card: Card, h: Header, given: &[u8], code: &[u8])
     both(takes_code(ins), both(h.cla == WITH_CODE, sw == 0x9000))
 }
 
-// What is given is the code of what it covers, under all sixteen bytes of the transport key.
+// What is given is the code of what it covers, under all sixteen bytes of a key.
+fn is_code_under(key: [u8; 16], session: Session, covered: &[u8], code: &[u8]) -> bool
+    ensures { λ r. ⌜ r ≡ codeUnder key session (now (covered .entry)) (now (code .entry)) ⌝ }
+{
+    let start = challenge_block(session);
+    same(mac(key, start, covered), 4, code)
+}
+
+// The same under the transport key.
 pub fn is_code(card: Card, covered: &[u8], code: &[u8]) -> bool
     ensures { λ r. ⌜ r ≡ codeGiven card (now (covered .entry)) (now (code .entry)) ⌝ }
 {
     let key = card.credentials[TRANSPORT];
     let value = key.value;
-    let start = challenge_block(card.session);
-    same(mac(value, start, covered), 4, code)
+    is_code_under(value, card.session, covered, code)
 }
 
 // The status word so far, and the tries left of the transport key.
@@ -107,42 +118,29 @@ fn heard_so(sw: u16, left: u8) -> Heard
     Heard { sw, left }
 }
 
-// Where there is no code all is as P and case have left it. A code presented changes the tries, and no right.
-fn hear(card: Card, h: Header, front: u16, covered: &[u8], code: &[u8]) -> Heard
-    requires { ⌜ valueOf (credential card 3) ≡ credential card 3 .value ⌝ }
+// Where there is no code all is as P and case have left it. A code presented changes the tries of the transport key, and no right.
+pub(crate) fn hear(
+    key: Credential,
+    session: Session,
+    h: Header,
+    front: u16,
+    covered: &[u8],
+    code: &[u8],
+) -> Heard
     requires { ⌜ orElse (frameSw (commandOf h [])) (classSw (commandOf h [])) ≡ 0x9000 ⌝ }
-    ensures { λ r. ⌜ Hears front card (codedOf h [] (now (code .entry)) (now (covered .entry))) r ⌝ }
+    ensures { λ r. ⌜ ((c : Card) → c .session ≡ session → credential c 3 ≡ key → valueOf (credential c 3) ≡ credential c 3 .value → Hears front c (codedOf h [] (now (code .entry)) (now (covered .entry))) r) ⌝ }
 {
-    let tries = tries_at(card, TRANSPORT);
+    let tries = key.tries;
     if h.cla != WITH_CODE {
         return heard_so(front, tries.left);
     }
-    let challenge = challenge_sw(card.session);
+    let challenge = challenge_sw(session);
     let sw = or_else(front, or_else(tries_sw(tries), challenge));
     if sw != 0x9000 {
         return heard_so(sw, tries.left);
     }
-    let right = is_code(card, covered, code);
+    let value = key.value;
+    let right = is_code_under(value, session, covered, code);
     let after = tried(tries, right);
     heard_so(unless(right, 0x6988), after.left)
-}
-
-// The status word and the tries with which the file's checks begin.
-pub(crate) fn heard(
-    ins: Ins,
-    card: Card,
-    h: Header,
-    given: &[u8],
-    covered: &[u8],
-    code: &[u8],
-) -> Heard
-    requires { ⌜ valueOf (credential card 3) ≡ credential card 3 .value ⌝ }
-    requires { ⌜ orElse (frameSw (commandOf h [])) (classSw (commandOf h [])) ≡ 0x9000 ⌝ }
-    ensures { λ r. ⌜ Opens ins card (codedOf h (now (given .entry)) (now (code .entry)) (now (covered .entry))) r ⌝ }
-{
-    if takes_code(ins) {
-        return hear(card, h, front_sw(ins, h, given, code), covered, code);
-    }
-    let tries = tries_at(card, TRANSPORT);
-    heard_so(0x9000, tries.left)
 }

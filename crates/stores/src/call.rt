@@ -4,12 +4,13 @@ ghost use mathlib.Core.Bool.{cond};
 ghost use mathlib.Core.List.{[]};
 ghost use Prim.Native.Nat.{_≤_};
 ghost use lib.ListN.{length};
+ghost use Rattle.rules.specs.Words.{first};
 ghost use Rattle.rules.specs.State.{valueOf, credential, logins, challenge};
 ghost use Rattle.rules.specs.Frame.{framed};
 ghost use Rattle.rules.specs.Binary.{updateBinaryChecks, updateBinaryDeed};
 ghost use Rattle.rules.specs.Record.{recordFound, updateRecordChecks, updateRecordDeed, appendChecks, appendDeed};
 ghost use Rattle.rules.specs.Pins.{verifyChecks, verifyTouch, changeChecks, changeTouch, reloadChecks, reloadTouch};
-ghost use Rattle.rules.specs.Device.{authenticateChecks, authenticateTouch};
+ghost use Rattle.rules.specs.Device.{cryptogram, authenticateChecks, authenticateTouch};
 ghost use Rattle.rules.specs.Create.{createChecks, createDeed};
 ghost use Rattle.card.specs.Head.{headOf, codedOf, commandOf};
 ghost use Rattle.card.specs.Carried.{Ready};
@@ -40,6 +41,7 @@ use card::pins;
 use card::record;
 use card::response;
 use card::sound::is_sound;
+use card::state::held_at;
 use card::state::tries_at;
 use card::step::RANDOM_SIZE;
 use card::words::or_else;
@@ -52,17 +54,59 @@ use files::record::after_append;
 use files::record::next_start;
 use files::sizes::size;
 use power::Numbered;
+use rules::ADMIN;
 use rules::Card;
 use rules::DEVICE;
 use rules::Ins;
 use rules::TRANSPORT;
 use rules::USER;
 
+// The checks of a command, by the parts of the card that they look at.
+fn verify_sw(card: Card, h: Header, given: &[u8]) -> u16
+    ensures { λ r. ⌜ r ≡ first (verifyChecks (logins card) (commandOf h (now (given .entry)))) ⌝ }
+{
+    let n = pins::pin_named(h);
+    pins::verify_sw(tries_at(card, n), held_at(card, n), h, given)
+}
+
+fn authenticate_sw(card: Card, h: Header, given: &[u8]) -> u16
+    ensures { λ r. ⌜ r ≡ first (authenticateChecks (logins card) (challenge card) (commandOf h (now (given .entry)))) ⌝ }
+{
+    device::authenticate_sw(tries_at(card, DEVICE), card.session, h, given)
+}
+
+fn change_sw(card: Card, h: Header, given: &[u8]) -> u16
+    ensures { λ r. ⌜ r ≡ first (changeChecks (logins card) (commandOf h (now (given .entry)))) ⌝ }
+{
+    pins::change_sw(held_at(card, pins::pin_named(h)), h, given)
+}
+
+fn reload_sw(card: Card, h: Header, given: &[u8]) -> u16
+    ensures { λ r. ⌜ r ≡ first (reloadChecks (logins card) (commandOf h (now (given .entry)))) ⌝ }
+{
+    pins::reload_sw(held_at(card, ADMIN), h, given)
+}
+
+fn create_sw(card: Card, h: Header, given: &[u8]) -> u16
+    ensures { λ r. ⌜ r ≡ first (createChecks card (commandOf h (now (given .entry)))) ⌝ }
+{
+    create::create_sw(card.session, card.directory, h, given)
+}
+
+// Under all sixteen bytes of the device key.
+fn cryptogram(card: Card) -> [u8; 16]
+    ensures { λ r. ⌜ r ≡ cryptogram (credential card 0 .value) (challenge card) ⌝ }
+{
+    let key = card.credentials[DEVICE];
+    let value = key.value;
+    device::cryptogram(value, card.session)
+}
+
 // Store 0 is worked out before anything is compared.
 fn verify(card: Card, h: Header, given: &[u8], k: usize) -> Numbered
     ensures { λ r. ⌜ r ≡ storeAt (touchIf (verifyChecks (logins card) (commandOf h (now (given .entry)))) card (verifyTouch (logins card) (commandOf h (now (given .entry))))) k ⌝ }
 {
-    let sw = pins::verify_sw(card, h, given);
+    let sw = verify_sw(card, h, given);
     if !both(sw == 0x9000, h.case != 1) {
         return no_store();
     }
@@ -79,7 +123,7 @@ fn authenticate(card: Card, h: Header, given: &[u8], k: usize) -> Numbered
     requires { ⌜ valueOf (credential card 0) ≡ credential card 0 .value ⌝ }
     ensures { λ r. ⌜ r ≡ storeAt (touchIf (authenticateChecks (logins card) (challenge card) (commandOf h (now (given .entry)))) card (authenticateTouch (logins card) (challenge card) (commandOf h (now (given .entry))))) k ⌝ }
 {
-    let sw = device::authenticate_sw(card, h, given);
+    let sw = authenticate_sw(card, h, given);
     if sw != 0x9000 {
         return no_store();
     }
@@ -87,14 +131,14 @@ fn authenticate(card: Card, h: Header, given: &[u8], k: usize) -> Numbered
     if k == 0 {
         return lowered_store(DEVICE, tries);
     }
-    let agrees = pins::same(device::cryptogram(card), 16, given);
+    let agrees = pins::same(cryptogram(card), 16, given);
     restored_store(DEVICE, tries, agrees, k - 1)
 }
 
 fn change(card: Card, h: Header, given: &[u8], k: usize) -> Numbered
     ensures { λ r. ⌜ r ≡ storeAt (touchIf (changeChecks (logins card) (commandOf h (now (given .entry)))) card (changeTouch (commandOf h (now (given .entry))))) k ⌝ }
 {
-    let sw = pins::change_sw(card, h, given);
+    let sw = change_sw(card, h, given);
     if sw != 0x9000 {
         return no_store();
     }
@@ -104,7 +148,7 @@ fn change(card: Card, h: Header, given: &[u8], k: usize) -> Numbered
 fn reload(card: Card, h: Header, given: &[u8], k: usize) -> Numbered
     ensures { λ r. ⌜ r ≡ storeAt (touchIf (reloadChecks (logins card) (commandOf h (now (given .entry)))) card (reloadTouch (commandOf h (now (given .entry))))) k ⌝ }
 {
-    let sw = pins::reload_sw(card, h, given);
+    let sw = reload_sw(card, h, given);
     if sw != 0x9000 {
         return no_store();
     }
@@ -159,7 +203,7 @@ fn append_record(card: Card, area: &[u8], h: Header, given: &[u8], k: usize) -> 
 fn create_file(card: Card, h: Header, given: &[u8], k: usize) -> Numbered
     ensures { λ r. ⌜ r ≡ storeAt (deedIf (createChecks card (commandOf h (now (given .entry)))) card (createDeed card (commandOf h (now (given .entry))))) k ⌝ }
 {
-    let sw = create::create_sw(card, h, given);
+    let sw = create_sw(card, h, given);
     if sw != 0x9000 {
         return no_store();
     }

@@ -2,11 +2,23 @@
 use Rattle.card.proofs.state.carried.Statement.{statement}
 use Rattle.card.proofs.state.carried.Tie as tie
 
-tries-at-requires : tie.Need-tries-at-requires
-tries-at-requires c κs = tt
+blank-file-requires : tie.Need-blank-file-requires
+blank-file-requires c κs = tt
+
+new-folder-requires : tie.Need-new-folder-requires
+new-folder-requires c κs = tt
+
+blank-credential-requires : tie.Need-blank-credential-requires
+blank-credential-requires c κs = tt
 
 returns : tie.Need-returns
-returns c = rw (c .tries-at .ensures)
+returns c = rw ((c .blank-credential) .ensures, (c .before .new-folder) .ensures, (c .before .before .blank-file) .ensures)
 
 pub carried-spec : {M : Type 1} → statement M
-carried-spec = tie.close (tie.spec tries-at-requires returns)
+carried-spec =
+    tie.close
+    (tie.spec
+    blank-file-requires
+    new-folder-requires
+    blank-credential-requires
+    returns)
