@@ -194,7 +194,7 @@ binary-plain f h = let e : f .kind ≡ binary = eqb-true _ _ (holds (eqb (f .kin
 -- what the passed checks tell of the file that a command addresses
 module _ (x : Kind) (c : Card) (area : List ℕ) (h : sound c area ≡ true) (k : Command)
     (by-code : (right : ℕ) → codeAskedSw right k ≡ 0x9000 → asksCode right ≡ true → x ≡ rightly) where
-  entitled : (sfi byte : ℕ) → fileSw (target c sfi) ≡ 0x9000 → rightSw c byte ≡ 0x9000 → codeAskedSw byte k ≡ 0x9000
+  entitled : (sfi byte : ℕ) → fileSw (target c sfi) ≡ 0x9000 → rightSw (c .session .rights) byte ≡ 0x9000 → codeAskedSw byte k ≡ 0x9000
       → Entitled x c (target c sfi) (target c sfi) byte
   entitled sfi byte f r a = record {
     named-is = refl;

@@ -60,7 +60,7 @@ module _ {c : Card} {area : List ℕ} {w : ℕ} {e : Effect} {s : Stepped} (r : 
   f = fileNo c (binaryTarget c (framed cmd))
 
   asks-binary :
-      w ≡ first (binaryChecks c (framed cmd) (binaryTarget c (framed cmd)) (right (fileNo c (binaryTarget c (framed cmd)))) (offset (framed cmd)) count)
+      w ≡ first (binaryChecks (c .session .rights) (framed cmd) (binaryTarget c (framed cmd)) (fileNo c (binaryTarget c (framed cmd))) (right (fileNo c (binaryTarget c (framed cmd)))) (offset (framed cmd)) count)
       → ((there : IsFile c (binaryTarget c (framed cmd))) → offset (framed cmd) < size (fileNo c (binaryTarget c (framed cmd)))
       → Rest w (unless (leb (offset (framed cmd) + count) (size (fileNo c (binaryTarget c (framed cmd))))) 0x6700 ∷ []) → Next (binaryTarget c (framed cmd)))
       → answers.askBinary c area random cmd s right Next
@@ -146,7 +146,7 @@ module _ (c : Card) (area random cmd : List ℕ) (s : Stepped)
   at = offset (framed cmd)
 
   read-word : first (readBinaryChecks c (framed cmd))
-      ≡ first (binaryChecks c (framed cmd) (binaryTarget c (framed cmd)) (fileNo c (binaryTarget c (framed cmd)) .read) (offset (framed cmd)) (readCount (fileNo c (binaryTarget c (framed cmd))) (framed cmd)))
+      ≡ first (binaryChecks (c .session .rights) (framed cmd) (binaryTarget c (framed cmd)) (fileNo c (binaryTarget c (framed cmd))) (fileNo c (binaryTarget c (framed cmd)) .read) (offset (framed cmd)) (readCount (fileNo c (binaryTarget c (framed cmd))) (framed cmd)))
   unfolding readBinaryChecks
   read-word = refl
 
@@ -175,7 +175,7 @@ read-binary-answers = by-either 0xB0 answers.ReadBinary ReadBinary refl refl ref
 module _ (c : Card) (area random cmd : List ℕ) (s : Stepped)
     (r : Checked c area (first (updateBinaryChecks c (framed cmd))) (did c (updateBinaryDeed c (framed cmd))) s) where
   update-word : first (updateBinaryChecks c (framed cmd))
-      ≡ first (binaryChecks c (framed cmd) (binaryTarget c (framed cmd)) (fileNo c (binaryTarget c (framed cmd)) .write) (offset (framed cmd)) (lc (framed cmd)))
+      ≡ first (binaryChecks (c .session .rights) (framed cmd) (binaryTarget c (framed cmd)) (fileNo c (binaryTarget c (framed cmd))) (fileNo c (binaryTarget c (framed cmd)) .write) (offset (framed cmd)) (lc (framed cmd)))
   unfolding updateBinaryChecks
   update-word = refl
 

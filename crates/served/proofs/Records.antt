@@ -125,7 +125,7 @@ module _ {c : Card} {area : List ℕ} {w : ℕ} {e : Effect} {s : Stepped} (r : 
   g = fileNo c (recordTarget c (framed cmd))
 
   asks-record :
-      w ≡ first (recordChecks c (framed cmd) (recordTarget c (framed cmd)) (right (fileNo c (recordTarget c (framed cmd)))) (recordFound c area (framed cmd)) last)
+      w ≡ first (recordChecks (c .session .rights) (framed cmd) (recordTarget c (framed cmd)) (fileNo c (recordTarget c (framed cmd))) (right (fileNo c (recordTarget c (framed cmd)))) (recordFound c area (framed cmd)) last)
       → ((there : IsFile c (recordTarget c (framed cmd))) (has : HasRecords (fileNo c (recordTarget c (framed cmd)))) → recordFound c area (framed cmd) .there ≡ true
       → Rest w (last ∷ []) → Next (recordTarget c (framed cmd)))
       → answers.askRecord c area random cmd s right Next
@@ -152,7 +152,7 @@ module _ (c : Card) (area random cmd : List ℕ) (s : Stepped) (r : Checked c ar
   rec = recordFound c area (framed cmd)
 
   read-word : first (readRecordChecks c (recordFound c area (framed cmd)) (framed cmd))
-      ≡ first (recordChecks c (framed cmd) (recordTarget c (framed cmd)) (fileNo c (recordTarget c (framed cmd)) .read) (recordFound c area (framed cmd)) (recordLeSw (recordFound c area (framed cmd)) (framed cmd)))
+      ≡ first (recordChecks (c .session .rights) (framed cmd) (recordTarget c (framed cmd)) (fileNo c (recordTarget c (framed cmd))) (fileNo c (recordTarget c (framed cmd)) .read) (recordFound c area (framed cmd)) (recordLeSw (recordFound c area (framed cmd)) (framed cmd)))
   unfolding readRecordChecks
   read-word = refl
 
@@ -185,7 +185,7 @@ read-record-answers = by-either 0xB2 answers.ReadRecord ReadRecord refl refl ref
 module _ (c : Card) (area random cmd : List ℕ) (s : Stepped) (r : Checked c area (first (updateRecordChecks c (recordFound c area (framed cmd)) (framed cmd)))
     (did c (updateRecordDeed c (recordFound c area (framed cmd)) (framed cmd))) s) where
   update-word : first (updateRecordChecks c (recordFound c area (framed cmd)) (framed cmd))
-      ≡ first (recordChecks c (framed cmd) (recordTarget c (framed cmd)) (fileNo c (recordTarget c (framed cmd)) .write) (recordFound c area (framed cmd)) (recordLcSw (recordFound c area (framed cmd)) (framed cmd)))
+      ≡ first (recordChecks (c .session .rights) (framed cmd) (recordTarget c (framed cmd)) (fileNo c (recordTarget c (framed cmd))) (fileNo c (recordTarget c (framed cmd)) .write) (recordFound c area (framed cmd)) (recordLcSw (recordFound c area (framed cmd)) (framed cmd)))
   unfolding updateRecordChecks
   update-word = refl
 

@@ -157,7 +157,7 @@ FolderStays =
 
 -- ---- the rights byte, both ways: the check of a right passes exactly where what the byte asks is held
 abbrev pub RightsBothWays : Type 0
-RightsBothWays = (c : Card) (byte : ℕ) → (Opens (heldOn c) byte → rightSw c byte ≡ 0x9000) × ((Opens (heldOn c) byte → ⊥) → rightSw c byte ≡ 0x6982)
+RightsBothWays = (c : Card) (byte : ℕ) → (Opens (heldOn c) byte → rightSw (c .session .rights) byte ≡ 0x9000) × ((Opens (heldOn c) byte → ⊥) → rightSw (c .session .rights) byte ≡ 0x6982)
 
 -- and over any list of calls after a served issue it is held on the card exactly where it is held in the ledger
 abbrev pub OpensFollows : Type 0
