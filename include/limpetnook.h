@@ -24,7 +24,7 @@
  * docs/PROCESSORS.md has the same of the others:
  *
  *                     code    constants   stack of a call      C functions needed
- *   liblimpetnook.a   92000   1250        LIMPET_TEXT_STACK    memcpy, memset
+ *   liblimpetnook.a   75000   1250        LIMPET_TEXT_STACK    memcpy, memset
  *   limpet_aes128     1531    0           LIMPET_AES128_STACK  none
  *   limpet_code       2640    950         LIMPET_CODE_STACK    memcpy
  *
@@ -68,9 +68,9 @@ uint32_t limpet_version(void);
  * for a text and the two that convert one, of limpet_aes128, and of limpet_code.
  */
 #ifdef __x86_64__
-#define LIMPET_CARD_STACK 5632
+#define LIMPET_CARD_STACK 4608
 #else
-#define LIMPET_CARD_STACK 7168
+#define LIMPET_CARD_STACK 5120
 #endif
 #define LIMPET_TEXT_STACK 18432
 #define LIMPET_AES128_STACK 512
