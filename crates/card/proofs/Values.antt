@@ -1,6 +1,6 @@
 -- What is kept of a credential's value: a key fills its place, and behind a PIN all is 00.
 use Prim.Native.Nat.{ℕ, _≤_, _<_, min}
-use mathlib.Core.Bool.{Bool, true, false, _&&_}
+use mathlib.Core.Bool.{Bool, true, false, _&&_, and-false, and-assoc}
 use mathlib.Core.List.{List, [], _∷_}
 use mathlib.Core.Logic.{by-cases}
 use mathlib.Core.Path.{_≡_, refl, sym, ap, _∙_}
@@ -8,9 +8,8 @@ use native.Mathlib.Decide.{decLt, ℕ-discrete}
 use native.Mathlib.Omega.{arith}
 use lib.Dec.{eqb, leb}
 use lib.ListN.{length, take, drop, length-take, drop-of-length-le}
-use borrow.Author.Tests.{eq-eqb, ne-eqb, leb-true, le-leb, lt-leb}
+use borrow.Author.Tests.{eq-eqb, ne-eqb, le-leb, lt-leb}
 use Rattle.files.specs.Words.{every, isZero}
-use Rattle.files.proofs.Checks.{clash, both}
 use Rattle.rules.specs.Words.{allOf}
 use Rattle.rules.specs.Sound.{digit, goodPinLength, goodPin}
 
@@ -37,12 +36,11 @@ module _ (v : List ℕ) (len : ℕ) (places : length v ≡ 16) where
       short : (len ≡ 16 → ⊥) → len ≤ 16 → eqb len 16 ≡ every (leb len 16 ∷ eqb (length (take len v)) 16 ∷ zeros ∷ [])
       short o l = rw (ne-eqb len 16 o, le-leb len 16 l, ne-eqb (length (take len v)) 16 (λ e. o (sym (front-length l) ∙ e)))
 
-  pub pin-length : goodPinLength len ≡ false → every (leb len 16 ∷ goodPin (take len v) ∷ zeros ∷ []) ≡ false
+  pub pin-kept : every (leb len 16 ∷ goodPin (take len v) ∷ zeros ∷ []) ≡ (goodPinLength len && (allOf digit (take len v) && zeros))
   unfolding goodPin
-  pin-length e = by-cases (decLt 16 len) (λ l. rw (lt-leb len 16 l)) (λ l. rw (le-leb len 16 (omega (arith, l)), front-length (omega (arith, l)), e))
-
-  pub pin-kept : goodPinLength len ≡ true → every (leb len 16 ∷ goodPin (take len v) ∷ zeros ∷ []) ≡ (allOf digit (take len v) && zeros)
-  unfolding goodPin
-  pin-kept e =
-      let l : len ≤ 16 = leb-true len 16 (both (leb 6 len) (leb len 16) e .1) in
-      rw (le-leb len 16 l, front-length l, e)
+  pin-kept = by-cases (decLt 16 len)
+      (λ l. rw (lt-leb len 16 l) (sym (ap (λ b. b && (allOf digit (take len v) && zeros)) (and-false (leb 6 len)))))
+      (λ l. let h : len ≤ 16 = omega (arith, l) in
+      ap (λ b. b && (goodPin (take len v) && zeros)) (le-leb len 16 h)
+      ∙ ap (λ n. (goodPinLength n && allOf digit (take len v)) && zeros) (front-length h)
+      ∙ and-assoc (goodPinLength len) _ _)

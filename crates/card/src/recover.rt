@@ -6,8 +6,8 @@ ghost use Rattle.rules.specs.State.{howMany, withJournal};
 ghost use Rattle.power.specs.Journal.{credential, entry, isPin, isEntry, withValueOf, redo, leftByCut};
 ghost use Rattle.power.specs.Recovery.{trim, redone, tidied, recover};
 use crate::AREA_SIZE;
+use crate::sound::all_zero;
 use crate::sound::is_sound;
-use crate::sound::zero_from;
 use crate::state::answer;
 use crate::state::filled;
 use crate::state::no_journal;
@@ -45,7 +45,7 @@ fn left_by_cut(j: Journal, count: u8) -> bool
 {
     let what = j.what;
     let bytes = j.bytes;
-    let some = !zero_from(&bytes[0..4], 0);
+    let some = !all_zero(&bytes[0..4]);
     let there = both(wide(what) < 16 + wide(count), some);
     either(what == 0, either(is_pin(what), both(16 <= what, there)))
 }

@@ -7,19 +7,19 @@ use Rattle.power.specs.Journal.{leftByCut}
 use Rattle.card.proofs.recover.left_by_cut.Statement.{statement}
 use Rattle.card.proofs.recover.left_by_cut.Tie as tie
 
-sub-zero-from : tie.Need-sub-zero-from
-sub-zero-from c = search needs
+sub-all-zero : tie.Need-sub-all-zero
+sub-all-zero c = search needs
 
-part-zero-from-start : tie.Need-part-zero-from-start
-part-zero-from-start c = search needs
+part-all-zero-start : tie.Need-part-all-zero-start
+part-all-zero-start c = search needs
 
-part-zero-from-end : tie.Need-part-zero-from-end
-part-zero-from-end c =
+part-all-zero-end : tie.Need-part-all-zero-end
+part-all-zero-end c =
     let l : length (c .before .before .args .j .bytes) ≡ 17 = search needs in
     omega (arith, l)
 
-zero-from-requires : tie.Need-zero-from-requires
-zero-from-requires c κs = tt
+all-zero-requires : tie.Need-all-zero-requires
+all-zero-requires c κs = tt
 
 wide-requires : tie.Need-wide-requires
 wide-requires c κs = tt
@@ -49,16 +49,16 @@ returns : tie.Need-returns
 unfolding leftByCut
 returns c =
     c .either2 .ensures
-    ∙ rw (c .before .either .ensures, c .before .before .both2 .ensures, c .before .before .before .is-pin .ensures, c .before .before .before .before .both .ensures, c .before .before .before .before .before .wide2 .ensures .is, c .before .before .before .before .before .before .wide .ensures .is, c .before .before .before .before .before .before .before .zero-from .ensures)
+    ∙ rw (c .before .either .ensures, c .before .before .both2 .ensures, c .before .before .before .is-pin .ensures, c .before .before .before .before .both .ensures, c .before .before .before .before .before .wide2 .ensures .is, c .before .before .before .before .before .before .wide .ensures .is, c .before .before .before .before .before .before .before .all-zero .ensures)
 
 pub left-by-cut-spec : {M : Type 1} → statement M
 left-by-cut-spec =
     tie.close
     (tie.spec
-    sub-zero-from
-    part-zero-from-start
-    part-zero-from-end
-    zero-from-requires
+    sub-all-zero
+    part-all-zero-start
+    part-all-zero-end
+    all-zero-requires
     wide-requires
     wide-requires-2
     add-both

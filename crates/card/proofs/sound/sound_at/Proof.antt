@@ -14,7 +14,7 @@ right-at-requires : tie.Need-right-at-requires
 right-at-requires c κs = tt
 
 sound-credential-requires : tie.Need-sound-credential-requires
-sound-credential-requires c κs = tt
+sound-credential-requires c κs = c .before .before .pre .1
 
 returns : tie.Need-returns
 returns c = c .sound-credential .ensures ∙ rw (c .before .right-at .ensures)

@@ -1,11 +1,4 @@
 -- `card::sound::zero_behind` meets its contract. Assumes nothing.
-use mathlib.Core.Path.{_≡_, sym, ap, _∙_}
-use mathlib.Core.Bool.{Bool}
-use Prim.Native.Nat.{ℕ}
-use denote.Ref.{now}
-use lib.ListN.{drop}
-use Rattle.rules.specs.Words.{allOf}
-use Rattle.files.specs.Words.{isZero}
 use Rattle.card.proofs.sound.zero_behind.Statement.{statement}
 use Rattle.card.proofs.sound.zero_behind.Tie as tie
 
