@@ -104,7 +104,7 @@ pub extern "C" fn limpet_issue(
     issued.outcome
 }
 
-// How many bytes of the reply are the answer is stored through count.
+// How many bytes of the reply are the answer is stored through count. A refused command leaves the card, and none is stored.
 #[no_mangle]
 pub extern "C" fn limpet_command(
     card: &mut Card,
@@ -117,8 +117,10 @@ pub extern "C" fn limpet_command(
     ensures { λ r. ⌜ PlacesCommand (command (now (card .entry)) (now (area .entry)) (now (cmd .entry)) (now (random .entry)) (now (reply .entry))) r (now (card .exit)) (now (area .exit)) (now (reply .exit)) (now (count .exit)) ⌝ }
 {
     let done = command(*card, area, cmd, random, reply);
-    *card = done.card;
     *count = done.n;
+    if done.outcome == 0 {
+        *card = done.card;
+    }
     done.outcome
 }
 
