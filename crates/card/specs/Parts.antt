@@ -2,17 +2,12 @@
 use Prim.Native.Nat.{ℕ}
 use mathlib.Core.Bool.{Bool}
 use mathlib.Core.List.{List, []}
-use lib.ListN.{take}
 use Rattle.codes.specs.Code.{mac, code}
 use Rattle.files.specs.declared.Directory.{Directory}
 use Rattle.rules.specs.declared.Card.{Card}
 use Rattle.rules.specs.declared.Session.{Session}
 use Rattle.rules.specs.Words.{same, filled}
-use Rattle.rules.specs.State.{noJournal, responseOf}
-
--- the challenge of a session
-abbrev pub challengeIn : Session → List ℕ
-challengeIn s = take (s .len) (s .challenge)
+use Rattle.rules.specs.State.{challengeIn, noJournal, responseOf}
 
 -- what is given is the code of what it covers, under a key's sixteen bytes
 abbrev pub codeUnder : List ℕ → Session → List ℕ → List ℕ → Bool
