@@ -26,7 +26,7 @@
  *                     code    constants   stack of a call      C functions needed
  *   liblimpetnook.a   75000   1250        LIMPET_TEXT_STACK    memcpy, memset
  *   limpet_aes128     1531    0           LIMPET_AES128_STACK  none
- *   limpet_code       2640    950         LIMPET_CODE_STACK    memcpy
+ *   limpet_code       2640    1008        LIMPET_CODE_STACK    memcpy
  *
  * The other two rows are each for a program that calls that function alone and is
  * linked with --gc-sections: each function is in a section of its own. A program
@@ -68,9 +68,9 @@ uint32_t limpet_version(void);
  * for a text and the two that convert one, of limpet_aes128, and of limpet_code.
  */
 #ifdef __x86_64__
-#define LIMPET_CARD_STACK 4608
+#define LIMPET_CARD_STACK 4096
 #else
-#define LIMPET_CARD_STACK 5120
+#define LIMPET_CARD_STACK 4608
 #endif
 #define LIMPET_TEXT_STACK 18432
 #define LIMPET_AES128_STACK 512

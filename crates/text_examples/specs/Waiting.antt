@@ -1,4 +1,4 @@
--- Both modes of R-6, and every number of bytes that wait, on both sides of 256.
+-- Both modes of R-6, and the numbers of bytes that wait, on both sides of 256.
 use Prim.Native.Nat.{ℕ, _+_, _-_}
 use mathlib.Core.Bool.{Bool, false, cond, _&&_}
 use mathlib.Core.List.{List, [], _∷_, _++_}
@@ -53,16 +53,19 @@ waiting-written =
 abbrev pub may-wait : ℕ → Bool
 may-wait n = is (leb n 256) (said-so (chars "1") (said n)) && is (eqb n 0) (said-so (chars "0") (said n))
 
+-- the numbers at both ends: of every other one `WrittenRead` and `AcceptedText` of `texts` say it
 abbrev pub waiting-read : List Row
-waiting-read = swept 150 may-wait ∷ []
+waiting-read = swept 18 may-wait ∷ swept 3 (λ n. may-wait (n + 127)) ∷ []
 
--- each number up to 256, and some past it
+-- and past 256
 abbrev pub more-read : List Row
-more-read = swept 110 (λ n. may-wait (n + 150)) ∷ swept 1 (λ o. may-wait 511 && (may-wait 512 && may-wait 513)) ∷ []
+more-read = swept 10 (λ n. may-wait (n + 250)) ∷ swept 1 (λ o. may-wait 511 && (may-wait 512 && may-wait 513)) ∷ []
 
 -- no mode but 0 and 1, those neither that are 0 or 1 in a byte or in two
 abbrev pub modes-read : List Row
 modes-read =
-    swept 1 (λ o. counted 515 (λ n d. is (leb n 1) (said-so d (chars "-"))))
+    swept 1 (λ o. counted 20 (λ n d. is (leb n 1) (said-so d (chars "-"))))
+    ∷ swept 1 (λ o. counting 6 254 (chars "452") (λ n d. is false (said-so d (chars "-"))))
+    ∷ swept 1 (λ o. counting 6 510 (chars "015") (λ n d. is false (said-so d (chars "-"))))
     ∷ swept 1 (λ o. counting 8 65532 (chars "23556") (λ n d. is false (said-so d (chars "-")) && is false (said-so d (chars "90"))))
     ∷ []
