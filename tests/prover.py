@@ -128,6 +128,20 @@ def check(name, source, libraries, kept=None):
     return done.returncode, done.stdout + done.stderr
 
 
+def shared(kept, copy):
+    """A copy of a folder that check keeps modules in, with the same files: rattle writes a module that it checks again into a new file,
+    which takes the old one's place."""
+    shutil.copytree(kept, copy, copy_function=os.link)
+
+
+def as_it_was(kept, since):
+    """Ends a script where a file of such a folder was written into after that time: then one try has changed what others start from."""
+    for folder, _, names in os.walk(kept):
+        for name in names:
+            if os.stat(os.path.join(folder, name)).st_mtime_ns > since:
+                sys.exit(f"{sys.argv[0]}: rattle has written into a file that others share: {name}")
+
+
 def proved(status, output):
     return status == 0 and re.search(r"^logic=proved", output, re.M) is not None
 

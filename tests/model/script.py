@@ -101,15 +101,19 @@ def lines_of(script):
     return lines
 
 
-def run(lines):
-    """The whole output for lines given without their newlines."""
+def output_of(lines):
+    """The output for lines given without their newlines, line by line."""
     program = Program()
-    output = [HEADER]
+    yield HEADER
     for number, line in enumerate(lines, 1):
         if number > MOST_LINES:
             break
-        output.append(output_line(number, program.answer(line)))
-    return b"".join(output)
+        yield output_line(number, program.answer(line))
+
+
+def run(lines):
+    """The whole of it."""
+    return b"".join(output_of(lines))
 
 
 def main():
