@@ -129,9 +129,9 @@ def check(name, source, libraries, kept=None):
 
 
 def shared(kept, copy):
-    """A copy of a folder that check keeps modules in, with the same files: rattle writes a module that it checks again into a new file,
-    which takes the old one's place."""
-    shutil.copytree(kept, copy, copy_function=os.link)
+    """A copy of a folder that check keeps modules in, with the same files for modules: rattle writes one that it checks again into a new
+    file, which takes the old one's place. When it was last used it writes into the file."""
+    shutil.copytree(kept, copy, copy_function=lambda old, new: (os.link if old.endswith(".oantt") else shutil.copy2)(old, new))
 
 
 def as_it_was(kept, since):
