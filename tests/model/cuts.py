@@ -11,7 +11,6 @@ With --all every family of commands has to be reached by them together.
 """
 
 import argparse
-import copy
 import os
 import subprocess
 import sys
@@ -103,8 +102,9 @@ def contents_of(created, held, newest, extent):
     if kind == cards.VARIABLE:
         records, place = [], 0
         while place < held:
-            records.append(extent[place + 1:place + 1 + extent[place]])
-            place += 1 + extent[place]
+            begin = place + 1
+            place = begin + extent[place]
+            records.append(extent[begin:place])
         return tuple(records)
     return extent
 
@@ -231,6 +231,28 @@ class Update(NamedTuple):
     new: bytes
 
 
+def again(thing):
+    """An object of the model once more, with the same in it."""
+    made = object.__new__(type(thing))
+    for name in thing.__slots__:
+        setattr(made, name, getattr(thing, name))
+    return made
+
+
+def copied(card):
+    """A card once more, with credentials, folders and files of its own."""
+    made = again(card)
+    for name in ("device", "admin", "user", "transport"):
+        setattr(made, name, again(getattr(card, name)))
+    folders = {cards.ROOT: cards.ROOT, **{folder: again(folder) for folder in card.folders}}
+    files = {None: None, **{file: again(file) for file in card.files}}
+    made.folders, made.files = [folders[folder] for folder in card.folders], [files[file] for file in card.files]
+    for file in made.files:
+        file.folder = folders[file.folder]
+    made.folder, made.current = folders[card.folder], files[card.current]
+    return made
+
+
 class Cut:
     """What may be found of one command on one card of the model, by the number of its stores that were done.
 
@@ -240,7 +262,7 @@ class Cut:
     """
 
     def __init__(self, card, area, sent, random):
-        after, area_after = copy.deepcopy(card), bytearray(area)
+        after, area_after = copied(card), bytearray(area)
         _, self.sw = cards.serve(after, area_after, sent, random)
         frame = cards.frame_of(sent)
         # A command that is not in the list makes no store, and neither does GET RESPONSE, in either mode.
