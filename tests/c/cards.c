@@ -44,22 +44,31 @@ static void put_code(const struct held *h, uint8_t *command, size_t length)
     code_for(&c, command, length, command + length);
 }
 
+/* The value of an upper-case hex digit, 16 where it is none. */
+static unsigned digit_of(char c)
+{
+    return '0' <= c && c <= '9' ? (unsigned)(c - '0') : 'A' <= c && c <= 'F' ? (unsigned)(c - 'A') + 10 : 16;
+}
+
 unsigned tell(struct held *h, const char *command)
 {
     uint8_t bytes[300];
     size_t length = 0;
-    unsigned byte;
-    int read = 1;
 
-    for (; length + LIMPET_CODE_SIZE <= sizeof bytes; command += read) {
-        command += strspn(command, " ");
-        if (*command == '*') {
+    while (*command != '\0') {
+        if (*command == ' ') {
+            command++;
+        } else if (length + LIMPET_CODE_SIZE > sizeof bytes) {
+            break;
+        } else if (*command == '*') {
             put_code(h, bytes, length);
             length += LIMPET_CODE_SIZE;
-            read = 1;
-        } else if (sscanf(command, "%2x%n", &byte, &read) == 1) {
-            bytes[length++] = (uint8_t)byte;
+            command++;
+        } else if (digit_of(command[0]) < 16 && digit_of(command[1]) < 16) {
+            bytes[length++] = (uint8_t)(16 * digit_of(command[0]) + digit_of(command[1]));
+            command += 2;
         } else {
+            wrong("no command: %s", command);
             break;
         }
     }

@@ -9,23 +9,24 @@ enum { GUARD = 64 };
 bool lent_exactly = false;
 
 /* Neighbours differ, so that a guard byte moved by one shows too. */
-static uint8_t guard_byte(size_t i)
+static const uint8_t *guard_bytes(void)
 {
-    return (uint8_t)(0xC3 + 31 * i);
+    static uint8_t bytes[GUARD + PLACES];
+
+    if (bytes[0] == 0)
+        for (size_t i = 0; i < sizeof bytes; i++)
+            bytes[i] = (uint8_t)(0xC3 + 31 * i);
+    return bytes;
 }
 
 static void set_guard(uint8_t *at, size_t length)
 {
-    for (size_t i = 0; i < length; i++)
-        at[i] = guard_byte(i);
+    memcpy(at, guard_bytes(), length);
 }
 
 static bool guard_stands(const uint8_t *at, size_t length)
 {
-    for (size_t i = 0; i < length; i++)
-        if (at[i] != guard_byte(i))
-            return false;
-    return true;
+    return memcmp(at, guard_bytes(), length) == 0;
 }
 
 struct lent lend(const uint8_t *data, size_t length)

@@ -38,11 +38,16 @@ void check_version(void)
     }
 }
 
-/* Bytes that no call would write by chance. */
+/* Bytes that no call would write by chance, each 7 more than the one before it. Any start is among the first 256 multiples of 7: that of
+   183 is 1. */
 static void fill(uint8_t *bytes, size_t length, uint8_t start)
 {
-    for (size_t i = 0; i < length; i++)
-        bytes[i] = (uint8_t)(start + 7 * i);
+    static uint8_t multiples[256 + 2 * LIMPET_AREA_SIZE];
+
+    if (multiples[1] == 0)
+        for (size_t i = 0; i < sizeof multiples; i++)
+            multiples[i] = (uint8_t)(7 * i);
+    memcpy(bytes, multiples + (uint8_t)(183 * start), length);
 }
 
 /* Cards have a turn of their own: as one of the buffers of a call a card might get the same place again and again. */
