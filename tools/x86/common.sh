@@ -367,9 +367,29 @@ build_program() {
         sources+=(tests/c/plain_stores.c)
         set -- "$@" -Wl,--wrap=limpet_store,--wrap=limpet_stores,--wrap=limpet_recover
     fi
+    set -- -std=c11 "$@" "${strict[@]}" -Ireader -Itests/c -DAES_BYTES=aes_bytes
     mkdir -p $built
     rm -f "$built/$name" # so that what is run is what was built now
-    $cc -std=c11 "$@" "${strict[@]}" -Ireader -Itests/c -DAES_BYTES=aes_bytes "${sources[@]}" "$library" -o "$built/$name"
+    if [ -n "${work-}" ]; then
+        compile_once "$@" || return
+    fi
+    $cc "$@" "${sources[@]}" "$library" -o "$built/$name"
+}
+
+# compile_once FLAG...: for build_program, compiles its sources, and has them be the objects. Programs of one script share many, and what
+# it has compiled with the same flags is taken again.
+compile_once() {
+    local flag source flags=() objects=()
+    for flag; do
+        [[ $flag == -Wl,* ]] || flags+=("$flag")
+    done
+    local folder=$work/objects/$(cksum <<<"$cc ${flags[*]}" | tr ' ' -)
+    mkdir -p "$folder"
+    for source in "${sources[@]}"; do
+        objects+=("$folder/${source//\//-}.o")
+        [ -e "${objects[-1]}" ] || $cc "${flags[@]}" -c "$source" -o "${objects[-1]}" || return
+    done
+    sources=("${objects[@]}")
 }
 
 # How a program is built whose instructions are counted: at addresses of its own, and with no function of C looked up in a call.
