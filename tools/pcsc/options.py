@@ -52,6 +52,9 @@ class Parser(argparse.ArgumentParser):
         if sys.stderr is not None:
             super().print_usage(file)
 
+    def exit(self, status=0, message=None):
+        super().exit(status, message if sys.stderr is not None else None)  # an older Python would write it to None
+
 
 def fill_closed():
     """Standard input, output and error that are closed: else what is opened next would have their numbers."""
