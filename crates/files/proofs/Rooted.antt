@@ -1,10 +1,10 @@
 -- The files of the root and the FIDs of directories: the file that is marked for a FID's SFI is the only one that can have it.
-use Prim.Native.Nat.{ℕ, zero, suc, _+_, _-_, _*_, _%_, _≤_, _<_, min}
+use Prim.Native.Nat.{ℕ, _+_, _-_, _*_, _%_, _≤_, _<_, min}
 use mathlib.Core.Bool.{Bool, true, false, cond, not, _&&_, _||_}
 use mathlib.Core.List.{List, [], _∷_}
 use mathlib.Core.Logic.{by-cases}
 use mathlib.Core.Path.{_≡_, refl, sym, ap, _∙_}
-use native.Mathlib.Decide.{decLt, ℕ-discrete}
+use native.Mathlib.Decide.{ℕ-discrete}
 use native.Mathlib.Omega.{arith}
 use lib.Dec.{eqb}
 use lib.ListN.{getD}
@@ -14,22 +14,9 @@ use Rattle.files.specs.declared.Directory.{Directory}
 use Rattle.files.specs.Words.{allBelow, seek, isZero}
 use Rattle.files.specs.Directory.{fid, sfi, fileAt, ofFid, ofSfi, here, folderFid, folderAt, folderHere}
 use Rattle.files.specs.Sound.{alone, apartAt}
-use Rattle.files.proofs.Checks.{clash, both, join, split, below, all-below}
-use Rattle.files.proofs.Sought.{seek-low, seek-found, seek-absent}
+use Rattle.files.proofs.Checks.{clash, both, join, below, all-below}
+use Rattle.files.proofs.Sought.{seek-low, seek-found, seek-absent, seek-last, seek-nothing}
 use Rattle.files.proofs.Pass.{marks, marked, apart-is}
-
-module _ (p : ℕ → Bool) where
-  pub seek-last : (n i : ℕ) → i < n → p i ≡ true → i < seek p n
-  unfolding seek
-  seek-last zero i l e = absurd (omega (arith, l))
-  seek-last (suc n) i l e =
-      split (λ m. i < m) (p n) (λ _. l)
-      (λ f. by-cases (decLt i n) (λ m. seek-last n i m e) (λ m. let q : i ≡ n = omega (arith, l, m) in clash (p n) (ap p (sym q) ∙ e) f))
-
-  pub none-found : (n : ℕ) → ((i : ℕ) → i < n → p i ≡ false) → seek p n ≡ 0
-  unfolding seek
-  none-found zero h = refl
-  none-found (suc n) h = rw (h n (omega arith)) (none-found n (λ i l. h i (omega (arith, l))))
 
 module _ (files : List File) (n m : ℕ) where
   -- no file of the root has this FID
@@ -46,7 +33,7 @@ module _ (files : List File) (n m : ℕ) where
 
   module _ (p : ℕ) (told : p ≡ seek (here (ofSfi 0 (m % 32)) files) n) where
     lacking : ((i : ℕ) → i < n → ofFid 0 m (fileAt files i) ≡ true → ⊥) → rootLacks ≡ true
-    lacking h = eq-eqb _ 0 (none-found (here (ofFid 0 m) files) n (λ i l. go i l (ofFid 0 m (fileAt files i)) refl))
+    lacking h = eq-eqb _ 0 (seek-nothing (here (ofFid 0 m) files) n (λ i l. go i l (ofFid 0 m (fileAt files i)) refl))
       where
         go : (i : ℕ) → i < n → (b : Bool) → ofFid 0 m (fileAt files i) ≡ b → b ≡ false
         go i l true e = absurd (h i l e)
@@ -96,9 +83,9 @@ module _ (files : List File) (n m : ℕ) where
           let l = seek-low (here (ofSfi 0 (m % 32)) files) n in
           (omega (arith, l, told, o), there (omega (arith, o)) .0, ap (λ t. fid (fileAt files t)) (sym q) ∙ eqb-true _ m (both (not (eqb p 0)) (eqb (fid (fileAt files k)) m) h .1)))
 
-pub mark-at : (files : List File) (n s m at place : ℕ) (seen : List ℕ) → seen ≡ marks files n → at ≡ m % 32 → place ≡ getD seen at 0
+pub mark-at : (files : List File) (n m at place : ℕ) (seen : List ℕ) → seen ≡ marks files n → at ≡ m % 32 → place ≡ getD seen at 0
     → place ≡ seek (here (ofSfi 0 (m % 32)) files) n
-mark-at files n s m at place seen e f g =
+mark-at files n m at place seen e f g =
     let z : 0 * 32 + m % 32 ≡ m % 32 = omega arith in
     g ∙ rw (e, f) (ap (λ t. getD (marks files n) t 0) (sym z) ∙ marked files n 0 (m % 32) (omega arith) (omega arith))
 

@@ -24,7 +24,7 @@ use Rattle.files.specs.Sound.{soundFile, alone, soundFolder}
 use Rattle.files.proofs.Blank.{unused-blank, unused-folder}
 use Rattle.files.proofs.Checks.{both, each, join, split, clash}
 use Rattle.files.proofs.Extents.{used-is, start-next}
-use Rattle.files.proofs.Sought.{seek-absent}
+use Rattle.files.proofs.Sought.{seek-absent, seek-nothing}
 use Rattle.files.proofs.Folders.{Foldered, folder-good, folder-alone}
 use Rattle.files.specs.Rights.{goodRights}
 use Rattle.files.proofs.Parts.{part-front}
@@ -48,7 +48,7 @@ use Rattle.texts.proofs.Contents.{AllSaid, files-back, bytes-back, fold
 use Rattle.texts.proofs.Counts.{told}
 use Rattle.texts.proofs.Lines.{hex-first}
 
--- a search finds the one place that passes, and none where none does
+-- a search finds the one place that passes
 module _ (p : ℕ → Bool) where
   seek-alone : (n i : ℕ) → i < n → p i ≡ true → ((j : ℕ) → i < j → j < n → p j ≡ false) → seek p n ≡ suc i
   unfolding seek
@@ -57,11 +57,6 @@ module _ (p : ℕ → Bool) where
       by-cases (decLt i n)
       (λ m. rw (o n m (omega arith)) (seek-alone n i m h (λ j a b. o j a (omega arith))))
       (λ m. let q : n ≡ i = omega arith in rw (q, h))
-
-  seek-nothing : (n : ℕ) → ((i : ℕ) → i < n → p i ≡ false) → seek p n ≡ 0
-  unfolding seek
-  seek-nothing zero h = refl
-  seek-nothing (suc n) h = rw (h n (omega arith)) (seek-nothing n (λ i l. h i (omega arith)))
 
 pub not-so : (b : Bool) → (b ≡ true → ⊥) → b ≡ false
 not-so true h = absurd (h refl)
