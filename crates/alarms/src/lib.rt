@@ -1,4 +1,5 @@
 // Alarms of many boxes: read from lines of text, summed at most 1,000 at a time, and told as a table (R-12). A public function has no requirement.
+#![tactic(auto)]
 use sums::{Alarm, Totals};
 
 pub mod scanning; // scanning.rt: a line of text, byte by byte
@@ -6,7 +7,7 @@ pub mod feeding; // feeding.rt: a text in pieces
 pub mod telling; // telling.rt: what is told
 
 // How far a line is read, the value of its digits so far, the lines read, and the refusal or 0.
-#[derive(Drop)]
+#[derive(Clone, Copy)]
 pub struct Scan {
     pub at: u8,
     pub word: u64,
@@ -15,7 +16,7 @@ pub struct Scan {
 }
 
 // A text read so far: the alarms that are held, and the totals of those before them.
-#[derive(Drop)]
+#[derive(Clone, Copy)]
 pub struct Feed {
     pub scan: Scan,
     pub held: usize,

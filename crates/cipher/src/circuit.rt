@@ -8,7 +8,7 @@ ghost use Rattle.cipher.specs.Words.{OnHalves};
 ghost use Rattle.cipher.specs.Circuit.{bits, sums, norm, inverses, products, outs, through, summing, norming, inverting, multiplying, gathering, Swapped, fives, threes, stacked, planes, first_out, second_out, third_out};
 
 // The bits of a byte, the lowest first.
-#[derive(Drop)]
+#[derive(Clone, Copy)]
 pub(crate) struct Bits {
     pub(crate) x7: u64,
     pub(crate) x6: u64,
@@ -21,7 +21,7 @@ pub(crate) struct Bits {
 }
 
 // The sums of its bits that are multiplied.
-#[derive(Drop)]
+#[derive(Clone, Copy)]
 pub(crate) struct Sums {
     pub(crate) x7: u64,
     pub(crate) y1: u64,
@@ -48,7 +48,7 @@ pub(crate) struct Sums {
 }
 
 // The norm of the byte, in the field of 16 elements.
-#[derive(Drop)]
+#[derive(Clone, Copy)]
 pub(crate) struct Norm {
     pub(crate) t21: u64,
     pub(crate) t22: u64,
@@ -57,7 +57,7 @@ pub(crate) struct Norm {
 }
 
 // The inverse of the norm, and sums of its bits.
-#[derive(Drop)]
+#[derive(Clone, Copy)]
 pub(crate) struct Inverse {
     pub(crate) t29: u64,
     pub(crate) t33: u64,
@@ -71,7 +71,7 @@ pub(crate) struct Inverse {
 }
 
 // The products of these with the sums.
-#[derive(Drop)]
+#[derive(Clone, Copy)]
 pub(crate) struct Products {
     pub(crate) z0: u64,
     pub(crate) z1: u64,
@@ -94,7 +94,7 @@ pub(crate) struct Products {
 }
 
 // The bits of the S-box, all but for the constant 63. A bit and the one four above it stand together.
-#[derive(Drop)]
+#[derive(Clone, Copy)]
 pub(crate) struct Outs {
     pub(crate) s7: u64,
     pub(crate) s3: u64,
@@ -106,13 +106,13 @@ pub(crate) struct Outs {
     pub(crate) s0: u64,
 }
 
-#[derive(Drop)]
+#[derive(Clone, Copy)]
 struct Pair {
     a: u64,
     b: u64,
 }
 
-#[derive(Drop)]
+#[derive(Clone, Copy)]
 pub(crate) struct Triple {
     pub(crate) a: u64,
     pub(crate) b: u64,

@@ -1,4 +1,6 @@
 // AES-128 of one block (FIPS 197), encryption. The state is two words of two columns each, and a column four bytes.
+#![tactic(auto)]
+
 ghost use Rattle.std.specs.Prelude.{◌≡◌, ◌+◌, ◌/◌, ◌%◌, ◌≤◌, [], ◌∷◌, eqb, length, get_or};
 ghost use Rattle.cipher.specs.Field.{xtime};
 ghost use Rattle.cipher.specs.ShiftRows.{shift_rows};
@@ -20,7 +22,7 @@ const SERVED: u8 = 0;
 const BAD_LENGTH: u8 = 6;
 
 // Four columns, two in a word: a state, or a round key.
-#[derive(Drop)]
+#[derive(Clone, Copy)]
 struct Block {
     lo: u64,
     hi: u64,

@@ -1,4 +1,5 @@
 // Prints the ciphertexts of known cases, a line each. `tests/cipher-vectors` has openssl work out what they must be.
+#![tactic(auto)]
 use libc::STDOUT_FILENO;
 
 // A byte whose first n bits are set, for n from 0 to 8.

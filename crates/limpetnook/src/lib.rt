@@ -1,5 +1,6 @@
 // The calls for C, all of them: include/limpetnook.h declares each. A card is lent by `&mut` and driven in place through call after call: each
 // function calls the one of `card` that takes a card by value, and stores the answer.
+#![tactic(auto)]
 mod board; // board.rt: the main board's side of a code
 mod hand; // hand.rt: a store as it is handed over
 
@@ -139,7 +140,7 @@ pub extern "C" fn limpet_recover(card: &mut Card, area: &[u8]) -> u8
 }
 
 // What C is given of a store: 1 in `given` where there is one.
-#[derive(Drop)]
+#[derive(Clone, Copy)]
 pub struct Slip {
     pub outcome: u8,
     pub address: u16,

@@ -2,7 +2,8 @@
 // the code that hands a store over is in the crate `stores`, that of recovery in `card`.
 
 // A store by its number: is there one, where it goes, and the byte.
-#[derive(Drop)]
+#![tactic(auto)]
+#[derive(Clone, Copy)]
 pub struct Numbered {
     pub there: bool,
     pub at: usize,

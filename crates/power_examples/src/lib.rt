@@ -1,1 +1,3 @@
 // Rows alone: what commands store, and what recovery makes of each cut.
+
+#![tactic(auto)]

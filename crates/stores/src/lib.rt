@@ -1,4 +1,5 @@
 // The store of a command that is asked for by its number (R-10). Here are those of each kind of change; what is `requires`d of numbers keeps sums from wrapping.
+#![tactic(auto)]
 ghost use Rattle.std.specs.Prelude.{◌≡◌, [], ◌∷◌, ◌++◌, cond, ◌+◌, ◌-◌, ◌*◌, ◌≤◌, ◌<◌, length, get_or};
 ghost use Rattle.files.specs.Words.{Bounded};
 ghost use Rattle.files.specs.Part.{zeros};
@@ -23,14 +24,14 @@ use power::Numbered;
 use rules::Tries;
 
 // What the call hands over: its outcome by document 01's number, and the store.
-#[derive(Drop)]
+#[derive(Clone, Copy)]
 pub struct Handed {
     pub outcome: u8,
     pub store: Numbered,
 }
 
 // The same for a run of stores: how many were handed over.
-#[derive(Drop)]
+#[derive(Clone, Copy)]
 pub struct Counted {
     pub outcome: u8,
     pub n: usize,

@@ -1,4 +1,5 @@
 // Alarm records, and their totals for each line and kind (R-12). A public function has no requirement.
+#![tactic(auto)]
 ghost use Rattle.std.specs.Prelude.{◌≡◌, false, ◌+◌, ◌-◌, ◌*◌, ◌≤◌};
 ghost use Rattle.files.specs.Words.{Bounded};
 ghost use Rattle.sums.specs.Alarm.{good};
@@ -8,7 +9,7 @@ use files::and_or::both;
 
 // An alarm record, eight bytes, high bytes first.
 #[repr(C)]
-#[derive(Drop)]
+#[derive(Clone, Copy)]
 pub struct Alarm {
     pub number: u32,
     pub line: u8,
@@ -18,14 +19,14 @@ pub struct Alarm {
 
 // For each line and kind how many alarms, and the sum of their minutes.
 #[repr(C)]
-#[derive(Drop)]
+#[derive(Clone, Copy)]
 pub struct Totals {
     pub counts: [u32; 192],
     pub minutes: [u32; 192],
 }
 
 // The totals behind a list of alarms, and whether it was refused.
-#[derive(Drop)]
+#[derive(Clone, Copy)]
 pub struct Summed {
     pub totals: Totals,
     pub refused: bool,

@@ -1,4 +1,5 @@
 // Reads alarm records as lines of text from standard input, and prints the totals for each line and kind.
+#![tactic(auto)]
 ghost use Rattle.std.specs.Prelude.{◌≤◌, length};
 ghost use Rattle.totals.specs.Reading.{Follows, Reported};
 
@@ -9,7 +10,7 @@ use files::and_or::both;
 use libc::{STDIN_FILENO, STDOUT_FILENO};
 
 // What is read so far, and whether to read on.
-#[derive(Drop)]
+#[derive(Clone, Copy)]
 struct Reading {
     feed: Feed,
     go: bool,

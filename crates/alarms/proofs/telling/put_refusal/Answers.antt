@@ -1,0 +1,8 @@
+use Rattle.digits.proofs.Drawn.{draws-then}
+use Rattle.alarms.specs.Report.{refused}
+use borrow.Author.Rules.{rules}
+use Rattle.alarms.proofs.telling.put_refusal.Goals as goal
+
+pub returns : goal.returns
+unfolding refused
+returns c = draws-then _ _ _ _ _ c.number_field-a.ensures c.number_field.ensures

@@ -1,0 +1,9 @@
+use mathlib.Core.Path.{sym, ◌∙◌}
+use borrow.Author.Tests.{eq-eqb, ne_eqb}
+use Rattle.card.proofs.binary.binary_sfi.Goals as goal
+
+pub returns-then-by_sfi : goal.returns-then-by_sfi
+returns-then-by_sfi c = rw (sym c.by_sfi.ensures ∙ c.if-by_sfi.true)
+
+pub returns : goal.returns
+returns c = rw (sym c.by_sfi.ensures ∙ c.if-by_sfi.false)

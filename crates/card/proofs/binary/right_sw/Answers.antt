@@ -1,0 +1,7 @@
+use borrow.Author.Rules.{rules}
+use Rattle.rules.specs.Words.{unless}
+use Rattle.rules.specs.State.{marked}
+use Rattle.card.proofs.binary.right_sw.Goals as goal
+
+pub returns : goal.returns
+returns c = rw (c.unless.ensures, c.allowed.ensures, c.marked-user.ensures, c.marked-admin.ensures, c.marked-device.ensures)

@@ -1,0 +1,5 @@
+use borrow.Author.Rules.{rules}
+use Rattle.card.proofs.code.is_code.Goals as goal
+
+pub returns : goal.returns
+returns c = c.is_code_under.ensures

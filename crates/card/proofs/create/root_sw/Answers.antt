@@ -1,0 +1,5 @@
+use Rattle.rules.specs.Words.{unless}
+use Rattle.card.proofs.create.root_sw.Goals as goal
+
+pub returns : goal.returns
+returns c = rw (c.unless.ensures, c.either.ensures, c.is_folder-other.ensures)

@@ -1,0 +1,39 @@
+use mathlib.Core.Path.{◌∙◌, ◌≡◌, ap, sym}
+use mathlib.Core.List.{[]}
+use native.Mathlib.Omega.{arith}
+use lib.ListN.{get_or}
+use Rattle.rules.specs.declared.Session.{Session}
+use Rattle.rules.specs.Words.{first}
+use Rattle.rules.specs.State.{logins, marked, right_kept}
+use Rattle.rules.specs.Pins.{change_checks, change_touch}
+use Rattle.rules.specs.Step.{touched}
+use Rattle.card.specs.Head.{command_of}
+use Rattle.card.proofs.Carrying.{leaves-same, refused-quietly}
+use Rattle.card.proofs.Outcomes.{change-checked, changed}
+use Rattle.card.proofs.pins.change.Goals as goal
+
+pub bounds-session-n : goal.bounds-session-n
+bounds-session-n c = omega (arith, c.requires.low)
+
+pub with_credential-requires : goal.with_credential-requires
+with_credential-requires c = omega (arith, c.requires.low)
+
+pub returns-then-sw : goal.returns-then-sw
+returns-then-sw c = λ card es et.
+    let a = c.args in
+    let k = command_of a.h a.given.now in
+    let w = c.change_sw-sw in
+    let held : marked (get_or a.session.rights a.n 0) ≡ marked (right_kept card a.n) = ap (λ (z : Session). marked (get_or z.rights a.n 0)) (sym es) in
+    let is : w.result ≡ first (change_checks (logins card) k) =
+    w.ensures ∙ rw (c.marked.ensures, held) (change-checked card k a.n c.requires.is) in
+    changed card a.session k c.with_credential.result es a.n a.tries c.requires.is (omega (arith, c.requires.low)) et (sym is ∙ c.if-sw.true) (c.with_credential.ensures ∙ rw (c.credential_of.ensures, c.same_session-done.ensures))
+
+pub returns : goal.returns
+returns c = λ card es et.
+    let a = c.args in
+    let k = command_of a.h a.given.now in
+    let w = c.change_sw-sw in
+    let held : marked (get_or a.session.rights a.n 0) ≡ marked (right_kept card a.n) = ap (λ (z : Session). marked (get_or z.rights a.n 0)) (sym es) in
+    let is : w.result ≡ first (change_checks (logins card) k) =
+    w.ensures ∙ rw (c.marked.ensures, held) (change-checked card k a.n c.requires.is) in
+    refused-quietly (first (change_checks (logins card) k)) card (touched card (change_touch k) []) w.result is c.if-sw.false c.same_session.result (leaves-same card a.session es c.same_session.result w.result c.same_session.ensures)

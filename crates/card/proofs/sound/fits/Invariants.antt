@@ -1,0 +1,18 @@
+use Prim.Native.Nat.{◌-◌, ◌≤◌}
+use mathlib.Core.Bool.{◌&&◌}
+use mathlib.Core.Path.{◌≡◌, sym, ◌∙◌}
+use lib.ListN.{length, drop}
+use native.Mathlib.Omega.{arith}
+use borrow.Author.Rules.{rules}
+use Rattle.card.specs.Places.{pin_fits, challenge_fits}
+use Rattle.card.proofs.Fitting.{place_at, zeros_behind, digits_before, zeros-start, digits-start, zeros-again, digits-again, zeros-end, digits-end}
+use Rattle.card.proofs.sound.fits.Given as goal
+
+abbrev pub invariant-loop-i : goal.invariant-loop-i
+invariant-loop-i l = (l.i ≤ 16)
+    × ((l.admin && digits_before (l.x.len - l.i) (drop l.i l.x.value)) ≡ pin_fits l.x)
+    × ((l.user && digits_before (l.y.len - l.i) (drop l.i l.y.value)) ≡ pin_fits l.y)
+    × ((l.challenge && zeros_behind (l.session.len - l.i) (drop l.i l.session.challenge)) ≡ challenge_fits l.session)
+
+abbrev pub decreases-loop-i : goal.decreases-loop-i
+decreases-loop-i l = 16 - l.i

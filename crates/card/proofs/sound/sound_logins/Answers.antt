@@ -1,0 +1,27 @@
+use mathlib.Core.Bool.{true}
+use mathlib.Core.Path.{◌∙◌, refl}
+use native.Mathlib.Omega.{arith}
+use borrow.Author.Rules.{rules}
+use Rattle.files.specs.Words.{all_below}
+use Rattle.files.proofs.Checks.{clash}
+use Rattle.card.proofs.sound.sound_logins.Goals as goal
+
+pub sound_at-requires : goal.sound_at-requires
+sound_at-requires c = (omega arith, λ k. clash true refl k)
+
+pub sound_at-requires-4 : goal.sound_at-requires-4
+sound_at-requires-4 c = (omega arith, λ k. clash true refl k)
+
+pub returns : goal.returns
+unfolding all_below
+returns c = c.both.ensures
+    ∙ rw (
+      c.sound_challenge.ensures,
+      c.both-four.ensures,
+      c.sound_at-4.ensures,
+      c.both-three.ensures,
+      c.sound_at-3.ensures,
+      c.both-two.ensures,
+      c.sound_at-2.ensures,
+      c.sound_at.ensures,
+    )

@@ -1,0 +1,5 @@
+use Rattle.card.specs.Carried.{carried}
+use Rattle.card.proofs.state.same_session.Goals as goal
+
+pub returns : goal.returns
+returns c = c.carried.ensures

@@ -1,0 +1,53 @@
+use mathlib.Core.Path.{◌∙◌, ◌≡◌, ap₂, refl, sym}
+use mathlib.Core.List.{[]}
+use native.Mathlib.Omega.{arith}
+use borrow.Author.Rules.{rules}
+use Rattle.files.specs.Directory.{addressed}
+use Rattle.rules.specs.Target.{target}
+use Rattle.rules.specs.Effect.{answers}
+use Rattle.card.specs.Head.{command_of}
+use Rattle.card.specs.Carried.{leaving}
+use Rattle.card.specs.Coded.{sfi_asked}
+use Rattle.card.proofs.Carrying.{carries-keyed, leaves-same, quiet}
+use Rattle.card.proofs.Serving.{key-whole}
+use Rattle.card.proofs.Opening.{coded-off, coded-on, opens-heard, parts_are}
+use Rattle.card.proofs.step.coded.Goals as goal
+
+pub hear-heard-requires : goal.hear-heard-requires
+hear-heard-requires c = c.requires.0.1
+
+pub on_contents-done-requires : goal.on_contents-done-requires
+on_contents-done-requires c = c.requires.1
+
+pub returns-then-heard : goal.returns-then-heard
+unfolding target
+returns-then-heard c = λ card random es ed ex ready tc.
+    let a = c.args in
+    let heard = c.hear-heard in
+    let g = c.given_of-given in
+    let v = c.covered_of-covered in
+    let t = c.code_of_lem in
+    let hears = heard.ensures card es ex (key-whole card a.area.now ready 3 (omega arith) refl) in
+    let opens = opens-heard a.h _ _ _ card heard.result a.ins c.front_sw-front.result c.front_sw-front.ensures tc hears in
+    let parts = parts_are a.cmd.now a.h _ _ _ c.requires.0.0 g.ensures t.ensures v.ensures in
+    let place = c.at_sfi-place in
+    let aim : c.addressed-x.result ≡ addressed card.directory (target card (sfi_asked a.ins (command_of a.h []))) =
+    c.addressed-x.ensures ∙ ap₂ addressed (sym ed) (place.ensures ∙ rw (c.sfi_asked.ensures, ← es, ← ed)) in
+    let w = c.on_contents-done in
+    rw (← coded-on a.ins card a.area.now a.h _ _ _ random heard.result opens a.cmd.now parts c.if-heard.true)
+    (carries-keyed card random a.area.now a.reply.now _ w.result _ _ heard.result.left c.leaving.result c.leaving.ensures (w.ensures card random es aim ready tc))
+
+pub returns : goal.returns
+returns c = λ card random es ed ex ready tc.
+    let a = c.args in
+    let heard = c.hear-heard in
+    let g = c.given_of-given in
+    let v = c.covered_of-covered in
+    let t = c.code_of_lem in
+    let hears = heard.ensures card es ex (key-whole card a.area.now ready 3 (omega arith) refl) in
+    let opens = opens-heard a.h _ _ _ card heard.result a.ins c.front_sw-front.result c.front_sw-front.ensures tc hears in
+    let parts = parts_are a.cmd.now a.h _ _ _ c.requires.0.0 g.ensures t.ensures v.ensures in
+    let q = c.same_session in
+    rw (← coded-off a.ins card a.area.now a.h _ _ _ random heard.result opens a.cmd.now parts c.if-heard.false)
+    (carries-keyed card random a.area.now a.reply.now (answers heard.result.sw card) q.result _ _ heard.result.left c.leaving-2.result c.leaving-2.ensures
+    (quiet card random a.area.now a.reply.now (answers heard.result.sw card) q.result refl (leaves-same card a.session es q.result heard.result.sw q.ensures)))

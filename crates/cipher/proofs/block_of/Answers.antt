@@ -1,0 +1,7 @@
+use Rattle.cipher.specs.Cipher.{aes128}
+use mathlib.Core.Path.{◌∙◌, ap₂}
+use borrow.Author.Rules.{rules}
+use Rattle.cipher.proofs.block_of.Goals as goal
+
+pub returns : goal.returns
+returns c = c.bytes_of.ensures ∙ (c.enciphered.ensures ∙ ap₂ aes128 c.loaded.ensures c.loaded-2.ensures)

@@ -1,0 +1,9 @@
+use Rattle.digits.proofs.Drawn.{put-done, put-none}
+use borrow.Author.Rules.{rules}
+use Rattle.digits.proofs.page.put.Goals as goal
+
+pub returns-then-at-out : goal.returns-then-at-out
+returns-then-at-out c = put-done _ _ _ c.if-at-out.true
+
+pub returns : goal.returns
+returns c = put-none _ _ _ c.if-at-out.false

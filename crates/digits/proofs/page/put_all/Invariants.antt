@@ -1,0 +1,13 @@
+use Prim.Native.Nat.{◌-◌}
+use mathlib.Core.Path.{◌≡◌, refl, sym, ◌∙◌}
+use lib.ListN.{length, drop}
+use Rattle.digits.specs.Page.{page, draw}
+use Rattle.digits.proofs.Drawn.{all_more, all_end}
+use borrow.Author.Rules.{rules}
+use Rattle.digits.proofs.page.put_all.Given as goal
+
+abbrev pub invariant-loop-i : goal.invariant-loop-i
+invariant-loop-i l = (length l.out ≡ length l.initial.out) × (draw (drop l.i l.text) (page l.out l.q) ≡ draw l.text (page l.initial.out l.at))
+
+abbrev pub decreases-loop-i : goal.decreases-loop-i
+decreases-loop-i l = length l.text - l.i

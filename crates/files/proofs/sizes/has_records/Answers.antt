@@ -1,0 +1,5 @@
+use mathlib.Core.Path.{◌≡◌, refl, sym, ap, ◌∙◌}
+use Rattle.files.proofs.sizes.has_records.Goals as goal
+
+pub returns : goal.returns
+returns c = c.either-2.ensures ∙ rw c.either.ensures

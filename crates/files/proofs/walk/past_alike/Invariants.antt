@@ -1,0 +1,15 @@
+use mathlib.Core.Path.{◌≡◌, sym, ap}
+use mathlib.Core.Bool.{true}
+use mathlib.Core.List.{List}
+use native.Mathlib.Omega.{arith}
+use Prim.Native.Nat.{ℕ, ◌+◌, ◌*◌, ◌≤◌, ◌<◌}
+use Rattle.files.specs.Types.{good_length}
+use Rattle.files.specs.Walk.{length_at, Comes}
+use Rattle.files.proofs.Walks.{comes-on, one-step}
+use Rattle.files.proofs.walk.past_alike.Given as goal
+
+abbrev pub invariant-loop-left : goal.invariant-loop-left
+invariant-loop-left l = (l.left ≤ 15) × (l.step ≡ l.n + 1) × (l.at < l.here) × (l.here + l.left * l.step ≤ l.used) × Comes l.used l.bytes l.here
+
+abbrev pub decreases-loop-left : goal.decreases-loop-left
+decreases-loop-left l = l.left

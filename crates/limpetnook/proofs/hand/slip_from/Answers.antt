@@ -1,0 +1,6 @@
+use mathlib.Core.Path.{refl}
+use borrow.Author.Rules.{rules}
+use Rattle.limpetnook.proofs.hand.slip_from.Goals as goal
+
+pub returns : goal.returns
+returns c = rw c.mark.ensures refl

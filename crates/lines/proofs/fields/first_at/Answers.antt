@@ -1,0 +1,21 @@
+use lib.ListN.{length}
+use Prim.Native.Nat.{◌-◌}
+use Rattle.lines.specs.Grammar.{Past}
+use Rattle.lines.proofs.Scanning.{first_found, first-passed, first-none}
+use borrow.Author.Rules.{rules}
+use Rattle.lines.proofs.fields.first_at.Goals as goal
+
+pub loop-i-init : goal.loop-i-init
+loop-i-init c = c.blocks_past-i.ensures
+
+pub returns-then-s-i : goal.returns-then-s-i
+returns-then-s-i c = let l = c.loop-i in let a = c.args in
+    record { is = first_found a.b a.s.now l.i l.invariant c.loop-i-test.true c.if-s-i.true; low = l.invariant.inside }
+
+pub loop-i-preserved : goal.loop-i-preserved
+loop-i-preserved c = let l = c.loop-i in let a = c.args in
+    first-passed a.b a.s.now l.i l.invariant c.loop-i-test.true c.if-s-i.false
+
+pub returns : goal.returns
+returns c = let l = c.loop-i in let a = c.args in
+    record { is = first-none a.b a.s.now l.i l.invariant c.loop-i-test.false; low = l.invariant.inside }

@@ -1,0 +1,15 @@
+use mathlib.Core.Path.{◌≡◌, refl, sym, ◌∙◌}
+use lib.ListN.{length, drop}
+use Prim.Native.Nat.{◌-◌, ◌≤◌}
+use mathlib.Core.Bool.{◌&&◌}
+use Rattle.rules.specs.Words.{all_of}
+use Rattle.lines.specs.Grammar.{digit_to}
+use Rattle.card.proofs.Passing.{pass-more, pass-end}
+use borrow.Author.Rules.{rules}
+use Rattle.lines.proofs.numerals.all_digits.Given as goal
+
+abbrev pub invariant-loop-i : goal.invariant-loop-i
+invariant-loop-i l = (l.i ≤ length l.s) × ((l.good && all_of (digit_to l.base) (drop l.i l.s)) ≡ all_of (digit_to l.base) l.s)
+
+abbrev pub decreases-loop-i : goal.decreases-loop-i
+decreases-loop-i l = length l.s - l.i

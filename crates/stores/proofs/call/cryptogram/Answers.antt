@@ -1,0 +1,5 @@
+use borrow.Author.Rules.{rules}
+use Rattle.stores.proofs.call.cryptogram.Goals as goal
+
+pub returns : goal.returns
+returns c = c.cryptogram.ensures

@@ -1,0 +1,10 @@
+use mathlib.Core.Path.{◌∙◌}
+use borrow.Author.Rules.{rules}
+use Rattle.stores.proofs.Changes.{found-bytes, found-count}
+use Rattle.stores.proofs.found_store.Goals as goal
+
+pub returns-then-k-lt-FOLDER_SIZE : goal.returns-then-k-lt-FOLDER_SIZE
+returns-then-k-lt-FOLDER_SIZE c = let a = c.args in c.a_store.ensures ∙ rw c.folder_bytes-bytes.ensures (found-bytes a.number a.x a.k c.if-k-lt-FOLDER_SIZE.true)
+
+pub returns : goal.returns
+returns c = let a = c.args in c.only.ensures ∙ rw c.a_store-2.ensures (found-count a.number a.x a.k c.if-k-lt-FOLDER_SIZE.false)

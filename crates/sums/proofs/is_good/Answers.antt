@@ -1,0 +1,8 @@
+use mathlib.Core.Path.{◌∙◌}
+use Rattle.sums.specs.Alarm.{good}
+use borrow.Author.Rules.{rules}
+use Rattle.sums.proofs.is_good.Goals as goal
+
+pub returns : goal.returns
+unfolding good
+returns c = c.both-3.ensures ∙ rw (c.both-2.ensures, c.both.ensures)

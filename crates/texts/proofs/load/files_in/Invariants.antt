@@ -1,0 +1,11 @@
+use Prim.Native.Nat.{◌-◌}
+use borrow.Author.Tests.{not-true, not-false}
+use Rattle.texts.proofs.Scanning.{FilesInv, files-begin, files-over, file-inside, files-goes, files-full}
+use native.Mathlib.Omega.{arith}
+use Rattle.texts.proofs.load.files_in.Given as goal
+
+abbrev pub invariant-loop-i : goal.invariant-loop-i
+invariant-loop-i l = FilesInv l.form l.given l.s l.initial.image l.image l.d l.at l.to l.i
+
+abbrev pub decreases-loop-i : goal.decreases-loop-i
+decreases-loop-i l = 16 - l.i

@@ -1,0 +1,6 @@
+use Rattle.texts.proofs.Scanning.{from_is}
+use borrow.Author.Rules.{rules}
+use Rattle.texts.proofs.scan.from.Goals as goal
+
+pub returns : goal.returns
+returns c = from_is c.args.s.now c.args.at

@@ -1,0 +1,7 @@
+use Rattle.digits.specs.Digits.{or_dash}
+use Rattle.texts.proofs.Drawing.{field-as}
+use borrow.Author.Rules.{rules}
+use Rattle.texts.proofs.text.put_challenge.Goals as goal
+
+pub returns : goal.returns
+returns c = field-as or_dash _ _ _ _ _ c.front_field.ensures (rw c.wide.ensures.is)

@@ -1,0 +1,18 @@
+use mathlib.Core.Path.{◌≡◌}
+use lib.ListN.{length}
+use Rattle.totals.specs.Reading.{Follows}
+use Rattle.totals.proofs.Read.{follows-none, follows-more}
+use borrow.Author.Rules.{rules}
+use Rattle.totals.proofs.read_all.Goals as goal
+
+pub loop-turns-init : goal.loop-turns-init
+loop-turns-init c = (search rules, follows-none _)
+
+pub returns-then-not-now : goal.returns-then-not-now
+returns-then-not-now c = c.loop-turns.invariant.1
+
+pub loop-turns-preserved : goal.loop-turns-preserved
+loop-turns-preserved c = (search rules, follows-more c.loop-turns.invariant.1 c.read_Some.ensures)
+
+pub returns : goal.returns
+returns c = c.loop-turns.invariant.1

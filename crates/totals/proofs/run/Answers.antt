@@ -1,0 +1,6 @@
+use Rattle.totals.proofs.Read.{reported}
+use borrow.Author.Rules.{rules}
+use Rattle.totals.proofs.run.Goals as goal
+
+pub returns : goal.returns
+returns c = reported _ _ c.args.out.now _ _ c.start-feed.ensures c.read_all-last.ensures c.requires c.told.ensures
