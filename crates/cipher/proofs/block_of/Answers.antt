@@ -1,6 +1,5 @@
 use Rattle.cipher.specs.Cipher.{aes128}
 use mathlib.Core.Path.{◌∙◌, ap₂}
-use borrow.Author.Rules.{rules}
 use Rattle.cipher.proofs.block_of.Goals as goal
 
 pub returns : goal.returns

@@ -1,6 +1,5 @@
 use Rattle.cipher.proofs.Halves.{parted}
 use native.Mathlib.Omega.{arith}
-use borrow.Author.Rules.{rules}
 use Rattle.cipher.proofs.bytes_of.Goals as goal
 
 pub overflow_cast-result : goal.overflow_cast-result
@@ -53,4 +52,4 @@ overflow_cast-result-16 c = omega arith
 
 pub returns : goal.returns
 returns c = let at = c in
-    parted at.args.s at.low_half_lem.ensures c.high_half_lem.ensures c.low_half-c.ensures c.high_half-d.ensures
+    parted at.args.s at.low_half-a.ensures c.high_half-b.ensures c.low_half-c.ensures c.high_half-d.ensures

@@ -1,5 +1,4 @@
 use mathlib.Core.Path.{◌∙◌}
-use borrow.Author.Rules.{rules}
 use Rattle.cipher.proofs.Rounds.{refused-key, refused-block, refused-out, served-call}
 use Rattle.cipher.proofs.encipher.Goals as goal
 
@@ -14,4 +13,4 @@ returns-then-out-ne16 c = refused-out _ _ _ c.if-key-ne16.false c.if-block-ne16.
 
 pub returns : goal.returns
 returns c = let at = c in
-    served-call _ _ _ at.if-key-ne16.false at.if-block-ne16.false at.if-out-ne16.false (c.store.ensures ∙ c.Block-of.ensures)
+    served-call _ _ _ at.if-key-ne16.false at.if-block-ne16.false at.if-out-ne16.false (c.store.ensures ∙ c.block_of.ensures)

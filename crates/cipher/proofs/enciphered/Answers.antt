@@ -1,12 +1,10 @@
-use Prim.Native.Nat.{◌≤◌, ◌-◌}
-use mathlib.Core.Path.{◌≡◌}
 use native.Mathlib.Omega.{arith}
 use lib.Dec.{eqb}
 use borrow.Author.Rules.{rules}
 use Rattle.cipher.specs.Field.{x_power}
 use Rattle.cipher.specs.KeyExpansion.{key_expansion}
 use Rattle.cipher.specs.Words.{columns, state}
-use Rattle.cipher.proofs.Keys.{IsRoundKey, key-itself, as-state, next-round}
+use Rattle.cipher.proofs.Keys.{key-itself, as-state, next-round}
 use Rattle.cipher.proofs.Halves.{whole-round}
 use Rattle.cipher.proofs.Rounds.{up_to, power-more, rounds-more, all-rounds}
 use Rattle.cipher.proofs.enciphered.Goals as goal

@@ -5,4 +5,4 @@ pub returns : goal.returns
 returns c = let at = c in
     let args = at.args in
     rw c.wide.ensures.0
-    (core-half args.t at.turned.result c.low_half_lem.result args.rc at.ranges.rc.fits at.turned.ensures c.low_half_lem.ensures)
+    (core-half args.t at.turned.result c.low_half.result args.rc at.ranges.rc.fits at.turned.ensures c.low_half.ensures)

@@ -1,7 +1,6 @@
 use mathlib.Core.Path.{◌∙◌}
 use native.Mathlib.Omega.{arith}
 use Rattle.cipher.proofs.States.{loaded}
-use borrow.Author.Rules.{rules}
 use Rattle.cipher.proofs.loaded.Goals as goal
 
 pub returns : goal.returns

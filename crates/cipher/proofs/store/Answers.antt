@@ -1,8 +1,5 @@
-use Prim.Native.Nat.{◌≤◌, ◌-◌}
-use mathlib.Core.Path.{◌≡◌}
 use native.Mathlib.Omega.{arith}
-use lib.ListN.{length, length-set, take}
-use borrow.Author.Rules.{rules}
+use lib.ListN.{length-set}
 use Rattle.cipher.proofs.Rounds.{copied_more, copied_all}
 use Rattle.cipher.proofs.store.Goals as goal
 

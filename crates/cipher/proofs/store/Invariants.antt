@@ -1,9 +1,6 @@
 use Prim.Native.Nat.{◌≤◌, ◌-◌}
 use mathlib.Core.Path.{◌≡◌}
-use native.Mathlib.Omega.{arith}
-use lib.ListN.{length, length-set, take}
-use borrow.Author.Rules.{rules}
-use Rattle.cipher.proofs.Rounds.{copied_more, copied_all}
+use lib.ListN.{length, take}
 use Rattle.cipher.proofs.store.Given as goal
 
 abbrev pub invariant-loop-i : goal.invariant-loop-i

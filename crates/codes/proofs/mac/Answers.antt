@@ -1,9 +1,5 @@
-use Prim.Native.Nat.{◌≤◌, ◌-◌}
-use mathlib.Core.Path.{◌≡◌}
 use native.Mathlib.Omega.{arith}
 use borrow.Author.Rules.{rules}
-use Rattle.codes.specs.Padding.{padded}
-use Rattle.codes.specs.Chaining.{chain, first_blocks}
 use Rattle.codes.proofs.Chaining.{no-link, next-link, all-linked}
 use Rattle.codes.proofs.mac.Goals as goal
 

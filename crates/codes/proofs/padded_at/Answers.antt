@@ -1,6 +1,5 @@
 use mathlib.Core.Path.{sym}
 use native.Mathlib.Omega.{arith}
-use borrow.Author.Rules.{rules}
 use Rattle.codes.proofs.Padding.{in-message, at-end, past_end}
 use Rattle.codes.proofs.padded_at.Goals as goal
 

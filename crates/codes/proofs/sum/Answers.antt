@@ -1,10 +1,7 @@
-use Prim.Native.Nat.{◌≤◌, ◌-◌}
-use mathlib.Core.Path.{◌≡◌}
 use native.Mathlib.Omega.{arith}
-use lib.ListN.{length, length-set, take}
+use lib.ListN.{length-set}
 use borrow.Author.Rules.{rules}
 use Rattle.codes.specs.Padding.{padded}
-use Rattle.codes.specs.Chaining.{added}
 use Rattle.codes.proofs.Chaining.{none-added, byte-added, all-added}
 use Rattle.codes.proofs.sum.Goals as goal
 

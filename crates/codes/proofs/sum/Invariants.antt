@@ -1,11 +1,8 @@
 use Prim.Native.Nat.{◌≤◌, ◌-◌}
 use mathlib.Core.Path.{◌≡◌}
-use native.Mathlib.Omega.{arith}
-use lib.ListN.{length, length-set, take}
-use borrow.Author.Rules.{rules}
+use lib.ListN.{length, take}
 use Rattle.codes.specs.Padding.{padded}
 use Rattle.codes.specs.Chaining.{added}
-use Rattle.codes.proofs.Chaining.{none-added, byte-added, all-added}
 use Rattle.codes.proofs.sum.Given as goal
 
 abbrev pub invariant-loop-i : goal.invariant-loop-i

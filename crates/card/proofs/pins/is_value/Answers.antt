@@ -12,5 +12,5 @@ returns-then-n-lt-CREDENTIALS c = c.same.ensures
 
 pub returns : goal.returns
 returns c = let s = c in
-    let n : length s.args.card.credentials ≡ how_many = sym (length-map s.args.card.credentials _) ∙ s.well_formed.0.1.1.0.1.0.1 in
+    let n : length s.args.card.credentials ≡ how_many = s.well_formed.0.1.1.0.1.0.1 in
     c.same-2.ensures ∙ ap (λ (x : Credential). same (value_of x) s.args.given.now) (sym (get_or-eq_default s.args.card.credentials no_credential (omega (arith, n, c.if-n-lt-CREDENTIALS.false))))

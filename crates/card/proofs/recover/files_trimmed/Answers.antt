@@ -18,5 +18,5 @@ loop-i-preserved c = let v = c.loop-i in
 pub returns : goal.returns
 returns c = let s = c in
     let v = c.loop-i in
-    let n : length s.args.d.files ≡ 16 = sym (length-map s.args.d.files _) ∙ s.well_formed.0.1.1.0.1.0.1 in
+    let n : length s.args.d.files ≡ 16 = s.well_formed.0.1.1.0.1.0.1 in
     files-done s.args.d v.next v.i n c.loop-i-test.false v.invariant.0 v.invariant.1

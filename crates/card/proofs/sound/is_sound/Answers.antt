@@ -55,7 +55,7 @@ pub returns : goal.returns
 unfolding sound sound_state sound_current
 returns c = let s = c in
     let x = s.args.card in
-    let n : length x.credentials ≡ how_many = sym (length-map x.credentials _) ∙ s.well_formed.0.1.1.0.1.0.1 in
+    let n : length x.credentials ≡ how_many = s.well_formed.0.1.1.0.1.0.1 in
     let m : length x.session.rights ≡ how_many_rights = search rules in
     let r : sound_response x.response ≡ true = sym c.sound_response.ensures ∙ not-false _ c.if-not-sound_response.false-raw in
     let j : sound_journal x.journal ≡ true = sym c.sound_journal.ensures ∙ not-false _ c.if-not-sound_journal.false-raw in

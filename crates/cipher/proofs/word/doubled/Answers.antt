@@ -1,6 +1,5 @@
 use Rattle.cipher.proofs.Halves.{highs-fit, rest-fits, back_fits, doubled-halves}
 use native.Mathlib.Nat.{lt_of_le_of_lt}
-use borrow.Author.Rules.{rules}
 use Rattle.cipher.proofs.word.doubled.Goals as goal
 
 pub overflow_mul-result : goal.overflow_mul-result

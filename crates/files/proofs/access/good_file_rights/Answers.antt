@@ -1,7 +1,6 @@
 use mathlib.Core.Path.{sym, ◌∙◌}
 use Rattle.files.specs.Rights.{good_file_rights}
 use Rattle.files.proofs.Rights.{plain-good}
-use borrow.Author.Rules.{rules}
 use Rattle.files.proofs.access.good_file_rights.Goals as goal
 
 pub returns-then-byte-eq0 : goal.returns-then-byte-eq0

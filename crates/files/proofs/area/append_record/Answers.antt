@@ -11,7 +11,6 @@ use Rattle.files.specs.State.{file_answer}
 use Rattle.files.specs.Record.{next_start, entry, appended, appends_record}
 use Rattle.files.proofs.Appends.{next_fits}
 use Rattle.files.proofs.Served.{not-on-area, not-stored, in-fits, in_order, area-served, area-stored}
-use borrow.Author.Rules.{rules}
 use Rattle.files.proofs.area.append_record.Goals as goal
 
 pub returns-then-not-ends_by : goal.returns-then-not-ends_by

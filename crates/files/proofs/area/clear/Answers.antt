@@ -9,7 +9,6 @@ use native.Mathlib.Omega.{arith}
 use borrow.Author.Tests.{leb-true}
 use Rattle.files.specs.Part.{zeros}
 use Rattle.files.proofs.Served.{not-stored, is-stored, cleared, in-fits, in_order}
-use borrow.Author.Rules.{rules}
 use Rattle.files.proofs.area.clear.Goals as goal
 
 pub returns-then-not-ends_by : goal.returns-then-not-ends_by

@@ -10,7 +10,6 @@ use borrow.Author.Tests.{leb-true}
 use Rattle.files.specs.Part.{part}
 use Rattle.files.specs.Binary.{reads_binary}
 use Rattle.files.proofs.Served.{not-on-area, not-shown, in-fits, in_order, area-shown, reads-binary}
-use borrow.Author.Rules.{rules}
 use Rattle.files.proofs.area.read_binary.Goals as goal
 
 pub returns-then-not-ends_by : goal.returns-then-not-ends_by

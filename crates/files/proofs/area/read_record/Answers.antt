@@ -10,7 +10,6 @@ use borrow.Author.Tests.{leb-true}
 use Rattle.files.specs.Part.{part}
 use Rattle.files.specs.Record.{reads_record}
 use Rattle.files.proofs.Served.{not-on-area, not-shown, in-fits, in_order, area-shown, reads-record}
-use borrow.Author.Rules.{rules}
 use Rattle.files.proofs.area.read_record.Goals as goal
 
 pub returns-then-not-ends_by : goal.returns-then-not-ends_by

@@ -9,7 +9,6 @@ use native.Mathlib.Omega.{arith}
 use borrow.Author.Tests.{leb-true}
 use Rattle.files.specs.Record.{updates_record}
 use Rattle.files.proofs.Served.{not-on-area, not-stored, in-fits, in_order, area-served, area-stored, updates-record}
-use borrow.Author.Rules.{rules}
 use Rattle.files.proofs.area.update_record.Goals as goal
 
 pub returns-then-not-ends_by : goal.returns-then-not-ends_by

@@ -5,7 +5,6 @@ use borrow.Author.Tests.{not-true, not-false}
 use Rattle.files.specs.Part.{part}
 use Rattle.files.specs.Binary.{reads_binary, on_extent}
 use Rattle.files.proofs.Served.{not-shown, shown-as, as-asked, shows-extent, reads-binary}
-use borrow.Author.Rules.{rules}
 use Rattle.files.proofs.binary.read.Goals as goal
 
 pub returns-then-not-reads : goal.returns-then-not-reads

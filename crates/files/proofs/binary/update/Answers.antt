@@ -4,7 +4,6 @@ use lib.ListN.{length}
 use borrow.Author.Tests.{not-true, not-false}
 use Rattle.files.specs.Binary.{in_binary, on_extent}
 use Rattle.files.proofs.Served.{not-stored, stored-as, as-asked, fits-extent, binary-fits}
-use borrow.Author.Rules.{rules}
 use Rattle.files.proofs.binary.update.Goals as goal
 
 pub returns-then-not-updates : goal.returns-then-not-updates

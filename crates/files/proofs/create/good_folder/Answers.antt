@@ -1,4 +1,3 @@
-use borrow.Author.Rules.{rules}
 use Rattle.files.specs.Create.{good_folder}
 use Rattle.files.proofs.create.good_folder.Goals as goal
 

@@ -1,4 +1,3 @@
-use borrow.Author.Rules.{rules}
 use mathlib.Core.Path.{◌∙◌, ap}
 use Rattle.files.specs.Words.{seek}
 use Rattle.files.specs.Directory.{of_sfi, here, find_sfi}

@@ -1,4 +1,3 @@
-
 use Rattle.files.proofs.find.is_named.Goals as goal
 
 pub returns : goal.returns

@@ -1,4 +1,3 @@
-
 use Rattle.files.proofs.find.name_of.Goals as goal
 
 pub returns-then-by_sfi : goal.returns-then-by_sfi

@@ -1,4 +1,3 @@
-use borrow.Author.Rules.{rules}
 use Rattle.files.proofs.find.picked.Goals as goal
 
 pub returns-then-is : goal.returns-then-is

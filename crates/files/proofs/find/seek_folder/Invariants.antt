@@ -1,11 +1,7 @@
-use mathlib.Core.Path.{◌≡◌, refl, sym, ap, ◌∙◌}
-use Prim.Native.Nat.{ℕ, ◌≤◌, ◌+◌, ◌-◌}
-use mathlib.Core.Bool.{cond}
-use lib.Dec.{eqb}
+use mathlib.Core.Path.{◌≡◌}
+use Prim.Native.Nat.{◌≤◌, ◌-◌}
 use Rattle.files.specs.Words.{seek}
 use Rattle.files.specs.Directory.{folder_here}
-use Rattle.files.proofs.Sought.{seek-none, seek-more}
-use native.Mathlib.Omega.{arith}
 use Rattle.files.proofs.find.seek_folder.Given as goal
 
 abbrev pub invariant-loop-i : goal.invariant-loop-i

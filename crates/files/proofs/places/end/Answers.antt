@@ -1,4 +1,3 @@
-use borrow.Author.Rules.{rules}
 use mathlib.Core.Path.{◌∙◌, ap}
 use Rattle.files.specs.Directory.{start_at}
 use Rattle.files.proofs.places.end.Goals as goal

@@ -1,9 +1,6 @@
-use mathlib.Core.Path.{◌≡◌, refl, sym, ap, ◌∙◌}
-use Prim.Native.Nat.{ℕ, ◌≤◌, ◌-◌, ◌+◌, ◌*◌}
-use Rattle.files.specs.Types.{size}
-use Rattle.files.specs.Directory.{file_at, start_at}
-use Rattle.files.proofs.Extents.{start_none, start-more}
-use native.Mathlib.Omega.{arith}
+use mathlib.Core.Path.{◌≡◌}
+use Prim.Native.Nat.{◌≤◌, ◌-◌, ◌*◌}
+use Rattle.files.specs.Directory.{start_at}
 use Rattle.files.proofs.places.start_at.Given as goal
 
 abbrev pub invariant-loop-i : goal.invariant-loop-i

@@ -8,7 +8,6 @@ use Rattle.files.specs.Part.{splice}
 use Rattle.files.specs.Record.{next_start, entry, appends_record}
 use Rattle.files.proofs.Appends.{takes}
 use Rattle.files.proofs.Served.{not-stored, is-stored, own, as-asked}
-use borrow.Author.Rules.{rules}
 use Rattle.files.proofs.record.append.Goals as goal
 
 pub returns-then-not-appends : goal.returns-then-not-appends

@@ -5,7 +5,6 @@ use Rattle.files.specs.Types.{is_variable}
 use Rattle.files.proofs.Lists.{count-cyclic}
 use Rattle.files.proofs.Appends.{takes, grows-cyclic, next_low, used-bytes, appended-variable, appended-newest}
 use native.Mathlib.Omega.{arith}
-use borrow.Author.Rules.{rules}
 use Rattle.files.proofs.record.appended.Goals as goal
 
 pub overflow_add-bytes_used-then-f-eq-VARIABLE : goal.overflow_add-bytes_used-then-f-eq-VARIABLE

@@ -1,7 +1,6 @@
 use mathlib.Core.Path.{sym, ◌∙◌}
 use native.Mathlib.Omega.{arith}
 use Rattle.files.proofs.Cycle.{back-near, back-far}
-use borrow.Author.Rules.{rules}
 use Rattle.files.proofs.record.back.Goals as goal
 
 pub returns-then-k-newest : goal.returns-then-k-newest

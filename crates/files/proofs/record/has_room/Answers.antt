@@ -1,6 +1,5 @@
 use mathlib.Core.Path.{◌∙◌}
 use Rattle.files.specs.Record.{has_room}
-use borrow.Author.Rules.{rules}
 use Rattle.files.proofs.record.has_room.Goals as goal
 
 pub returns : goal.returns

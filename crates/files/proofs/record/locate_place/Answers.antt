@@ -8,7 +8,6 @@ use Rattle.files.specs.Record.{places_held}
 use Rattle.files.proofs.Checks.{both}
 use Rattle.files.proofs.Extents.{any-product}
 use Rattle.files.proofs.Lists.{number-places, located-not, located-there, start-places, length-places}
-use borrow.Author.Rules.{rules}
 use Rattle.files.proofs.record.locate_place.Goals as goal
 
 pub returns-then-not-there : goal.returns-then-not-there

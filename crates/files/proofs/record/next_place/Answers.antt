@@ -1,10 +1,9 @@
-use mathlib.Core.Path.{◌≡◌, sym, ap, ◌∙◌}
+use mathlib.Core.Path.{sym, ap, ◌∙◌}
 use Prim.Native.Nat.{◌+◌, ◌<◌, ◌≤◌}
 use Rattle.files.specs.Types.{count}
 use Rattle.files.specs.Record.{next_place}
 use Rattle.files.proofs.Cycle.{next-empty, next-on, next-round}
 use native.Mathlib.Omega.{arith}
-use borrow.Author.Rules.{rules}
 use Rattle.files.proofs.record.next_place.Goals as goal
 
 pub returns-then-f-eq0 : goal.returns-then-f-eq0

@@ -2,7 +2,6 @@ use mathlib.Core.Path.{sym, ◌∙◌}
 use borrow.Author.Tests.{eq-eqb, ne_eqb}
 use native.Mathlib.Omega.{arith}
 use Rattle.files.proofs.Lists.{place-cyclic, place_other}
-use borrow.Author.Rules.{rules}
 use Rattle.files.proofs.record.place_of.Goals as goal
 
 pub returns-then-f-eq-CYCLIC : goal.returns-then-f-eq-CYCLIC

@@ -6,7 +6,6 @@ use Rattle.files.specs.Part.{part, shows}
 use Rattle.files.specs.Binary.{on_extent}
 use Rattle.files.specs.Record.{reads_record}
 use Rattle.files.proofs.Served.{not-shown, shown-as, as-asked, shows-extent, reads-record}
-use borrow.Author.Rules.{rules}
 use Rattle.files.proofs.record.read.Goals as goal
 
 pub returns-then-not-reads : goal.returns-then-not-reads

@@ -7,7 +7,6 @@ use Rattle.files.specs.Record.{lead}
 use Rattle.files.specs.Types.{is_variable}
 use Rattle.files.proofs.Parts.{splice-cons}
 use Rattle.files.proofs.Appends.{record-short, entry-variable, entry-places}
-use borrow.Author.Rules.{rules}
 use Rattle.files.proofs.record.store_entry.Goals as goal
 
 pub overflow_cast-extent : goal.overflow_cast-extent

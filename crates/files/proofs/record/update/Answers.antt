@@ -5,7 +5,6 @@ use lib.ListN.{length}
 use Rattle.files.specs.Binary.{on_extent}
 use Rattle.files.specs.Record.{updates_record}
 use Rattle.files.proofs.Served.{not-stored, stored-as, as-asked, fits-extent, updates-record}
-use borrow.Author.Rules.{rules}
 use Rattle.files.proofs.record.update.Goals as goal
 
 pub returns-then-not-updates : goal.returns-then-not-updates

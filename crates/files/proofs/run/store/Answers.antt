@@ -5,7 +5,6 @@ use lib.Dec.{leb}
 use lib.ListN.{length}
 use borrow.Author.Tests.{not-true, not-false, leb-true}
 use Rattle.files.proofs.Served.{not-stored, is-stored}
-use borrow.Author.Rules.{rules}
 use Rattle.files.proofs.run.store.Goals as goal
 
 pub returns-then-not-ends_by : goal.returns-then-not-ends_by

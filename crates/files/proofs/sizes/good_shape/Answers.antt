@@ -1,4 +1,4 @@
-use mathlib.Core.Path.{◌≡◌, refl, sym, ap, ◌∙◌}
+use mathlib.Core.Path.{◌≡◌, sym, ◌∙◌}
 use mathlib.Core.Bool.{true, false}
 use Rattle.files.specs.Types.{sized_in_bytes, good_shape}
 use Rattle.files.proofs.sizes.good_shape.Goals as goal

@@ -1,4 +1,4 @@
-use mathlib.Core.Path.{◌≡◌, refl, sym, ap, ◌∙◌}
+use mathlib.Core.Path.{sym, ◌∙◌}
 use native.Mathlib.Omega.{arith}
 use Rattle.files.proofs.Extents.{size-bytes, size-records, bytes_product}
 use Rattle.files.proofs.sizes.size.Goals as goal

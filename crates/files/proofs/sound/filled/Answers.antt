@@ -1,4 +1,3 @@
-use borrow.Author.Rules.{rules}
 use Rattle.files.proofs.Pass.{unused-sum}
 use Rattle.files.proofs.sound.filled.Goals as goal
 

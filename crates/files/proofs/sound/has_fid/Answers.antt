@@ -1,4 +1,3 @@
-
 use Rattle.files.proofs.sound.has_fid.Goals as goal
 
 pub returns : goal.returns

@@ -1,14 +1,14 @@
 use mathlib.Core.Path.{◌≡◌, refl, sym, ap, ◌∙◌}
 use mathlib.Core.Bool.{true, false}
 use native.Mathlib.Omega.{arith}
-use Prim.Native.Nat.{ℕ, ◌+◌, ◌-◌, ◌*◌, ◌≤◌, ◌<◌, min}
-use lib.ListN.{length, length-map, get_or}
+use Prim.Native.Nat.{ℕ, ◌+◌, ◌-◌, ◌≤◌, ◌<◌, min}
+use lib.ListN.{length, get_or}
 use borrow.Author.Tests.{not-true, not-false, eq-eqb, ne_eqb, le-leb}
-use Rattle.files.specs.Words.{all_below, is_zero}
+use Rattle.files.specs.Words.{all_below}
 use Rattle.files.specs.Types.{size}
 use Rattle.files.specs.Directory.{file_at, start_at, folder_fid, folder_at}
 use Rattle.files.specs.Create.{housed}
-use Rattle.files.specs.Sound.{sound_place, alone, sound_folders, apart_at, sound_home, parted_place, lies}
+use Rattle.files.specs.Sound.{sound_place, alone, sound_folders, apart_at, parted_place, lies}
 use Rattle.files.proofs.Checks.{below_none, below_more, below-fail}
 use Rattle.files.proofs.Extents.{used-is, start_none, start-more}
 use Rattle.files.proofs.Parts.{part-lent}
@@ -254,7 +254,7 @@ returns c = let b = c in
     let d = b.args.d in
     let x = b.args.area.now in
     let u = lies d b.args.current b.args.folder in
-    let n : length d.files ≡ 16 = sym (length-map d.files _) ∙ b.well_formed.0.1.1.0.1.0.1 in
+    let n : length d.files ≡ 16 = b.well_formed.0.1.1.0.1.0.1 in
     let l = b.loop-i in
     let v = l.invariant in
     let m = b.loop-i-2 in

@@ -1,20 +1,13 @@
-use mathlib.Core.Path.{◌≡◌, refl, sym, ap, ◌∙◌}
-use mathlib.Core.Bool.{true, false}
-use native.Mathlib.Omega.{arith}
-use Prim.Native.Nat.{ℕ, ◌+◌, ◌-◌, ◌*◌, ◌≤◌, ◌<◌, min}
-use lib.ListN.{length, length-map, get_or}
-use borrow.Author.Tests.{not-true, not-false, eq-eqb, ne_eqb, le-leb}
+use mathlib.Core.Path.{◌≡◌}
+use mathlib.Core.Bool.{true}
+use Prim.Native.Nat.{ℕ, ◌-◌, ◌*◌, ◌≤◌}
+use lib.ListN.{length}
 use Rattle.files.specs.Words.{all_below, is_zero}
-use Rattle.files.specs.Types.{size}
 use Rattle.files.specs.Directory.{file_at, start_at, folder_fid, folder_at}
 use Rattle.files.specs.Create.{housed}
-use Rattle.files.specs.Sound.{sound_place, alone, sound_folders, apart_at, sound_home, parted_place, lies}
-use Rattle.files.proofs.Checks.{below_none, below_more, below-fail}
-use Rattle.files.proofs.Extents.{used-is, start_none, start-more}
-use Rattle.files.proofs.Parts.{part-lent}
-use Rattle.files.proofs.Folders.{foldered}
-use Rattle.files.proofs.Pass.{marks, marks-none, marks-more, slot-low, free, too_many, folders-fail, apart-fails, not-housed, at_home, home-fails, sfi-taken, file-fails, passed, file-passes, rest_more, lent, unsound-files, unparted, past-area, place-fails, all-parted, lies_at}
-use Rattle.files.proofs.Rooted.{root_lacks, lacks, found, mark-at, not-apart, all_apart}
+use Rattle.files.specs.Sound.{sound_place, alone, parted_place}
+use Rattle.files.proofs.Pass.{marks}
+use Rattle.files.proofs.Rooted.{root_lacks}
 use Rattle.files.proofs.sound.is_sound.Given as goal
 
 abbrev pub invariant-loop-i : goal.invariant-loop-i

@@ -1,13 +1,8 @@
-use mathlib.Core.Path.{◌≡◌, refl, sym, ap, ◌∙◌}
+use mathlib.Core.Path.{◌≡◌}
 use mathlib.Core.Bool.{true}
 use Prim.Native.Nat.{◌≤◌, ◌-◌}
-use native.Mathlib.Omega.{arith}
-use lib.ListN.{length}
-use borrow.Author.Tests.{not-true, not-false}
 use Rattle.files.specs.Words.{all_below}
-use Rattle.files.specs.Sound.{sound_folder, sound_folders}
-use Rattle.files.proofs.Checks.{below_none, below_more, below-fail}
-use Rattle.files.proofs.Folders.{folders-many, folders-pass}
+use Rattle.files.specs.Sound.{sound_folder}
 use Rattle.files.proofs.sound.sound_folders.Given as goal
 
 abbrev pub invariant-loop-i : goal.invariant-loop-i

@@ -1,6 +1,5 @@
-use mathlib.Core.Path.{◌∙◌, sym}
+use mathlib.Core.Path.{◌∙◌}
 use borrow.Author.Tests.{lt-ltb, le-ltb}
-use borrow.Author.Rules.{rules}
 use Rattle.files.proofs.state.added.Goals as goal
 
 pub returns-then-d-lt16 : goal.returns-then-d-lt16

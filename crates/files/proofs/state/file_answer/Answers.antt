@@ -1,4 +1,3 @@
-
 use Rattle.files.proofs.state.file_answer.Goals as goal
 
 pub returns-then-served : goal.returns-then-served

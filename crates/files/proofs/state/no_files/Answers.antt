@@ -1,4 +1,3 @@
-
 use Rattle.files.proofs.state.no_files.Goals as goal
 
 pub returns : goal.returns

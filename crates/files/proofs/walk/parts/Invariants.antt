@@ -1,11 +1,8 @@
-use mathlib.Core.Path.{◌≡◌, refl, sym, ap, ◌∙◌}
+use mathlib.Core.Path.{◌≡◌}
 use mathlib.Core.Bool.{true}
-use native.Mathlib.Omega.{arith}
 use Prim.Native.Nat.{◌≤◌, ◌-◌}
-use borrow.Author.Tests.{not-true, not-false}
 use Rattle.files.specs.Types.{good_length}
-use Rattle.files.specs.Walk.{parted, Comes}
-use Rattle.files.proofs.Walks.{comes-none, comes-on, comes-bad, comes-end}
+use Rattle.files.specs.Walk.{Comes}
 use Rattle.files.proofs.walk.parts.Given as goal
 
 abbrev pub invariant-loop-at : goal.invariant-loop-at

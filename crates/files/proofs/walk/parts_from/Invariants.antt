@@ -1,9 +1,5 @@
-use mathlib.Core.Path.{sym, ◌∙◌}
-use native.Mathlib.Omega.{arith}
 use Prim.Native.Nat.{◌-◌}
-use borrow.Author.Tests.{not-true, not-false}
 use Rattle.files.specs.Walk.{Comes}
-use Rattle.files.proofs.Walks.{comes-on, comes-bad, comes-end}
 use Rattle.files.proofs.walk.parts_from.Given as goal
 
 abbrev pub invariant-loop-at : goal.invariant-loop-at

@@ -2,7 +2,7 @@ use mathlib.Core.Path.{◌≡◌, sym, ap}
 use mathlib.Core.Bool.{true}
 use mathlib.Core.List.{List}
 use native.Mathlib.Omega.{arith}
-use Prim.Native.Nat.{ℕ, ◌+◌, ◌*◌, ◌≤◌, ◌<◌}
+use Prim.Native.Nat.{ℕ, ◌+◌, ◌<◌}
 use Rattle.files.specs.Types.{good_length}
 use Rattle.files.specs.Walk.{length_at, Comes}
 use Rattle.files.proofs.Walks.{comes-on, one-step}

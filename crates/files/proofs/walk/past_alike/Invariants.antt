@@ -1,11 +1,6 @@
-use mathlib.Core.Path.{◌≡◌, sym, ap}
-use mathlib.Core.Bool.{true}
-use mathlib.Core.List.{List}
-use native.Mathlib.Omega.{arith}
-use Prim.Native.Nat.{ℕ, ◌+◌, ◌*◌, ◌≤◌, ◌<◌}
-use Rattle.files.specs.Types.{good_length}
-use Rattle.files.specs.Walk.{length_at, Comes}
-use Rattle.files.proofs.Walks.{comes-on, one-step}
+use mathlib.Core.Path.{◌≡◌}
+use Prim.Native.Nat.{◌+◌, ◌*◌, ◌≤◌, ◌<◌}
+use Rattle.files.specs.Walk.{Comes}
 use Rattle.files.proofs.walk.past_alike.Given as goal
 
 abbrev pub invariant-loop-left : goal.invariant-loop-left

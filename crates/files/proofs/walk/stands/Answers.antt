@@ -1,7 +1,6 @@
 use mathlib.Core.Path.{sym, ◌∙◌}
 use Rattle.files.specs.Walk.{stands}
 use Rattle.files.proofs.Walks.{none-beyond}
-use borrow.Author.Rules.{rules}
 use Rattle.files.proofs.walk.stands.Goals as goal
 
 pub returns-then-bytes-at : goal.returns-then-bytes-at

@@ -1,21 +1,17 @@
 use mathlib.Core.Path.{◌≡◌, refl, sym, ap, ◌∙◌}
 use mathlib.Core.Bool.{true, false}
 use mathlib.Core.List.{List}
-use mathlib.Core.Logic.{⊎_elim}
 use native.Mathlib.Omega.{arith}
 use native.Mathlib.Numerals.{add-one}
 use Prim.Native.Nat.{ℕ, ◌+◌, ◌-◌, ◌≤◌}
 use lib.Dec.{leb}
-use borrow.Author.Rules.{rules}
 use borrow.Author.Tests.{not-true, not-false, leb-true}
 use Rattle.files.specs.Types.{good_length}
 use Rattle.files.specs.Walk.{length_at, stands, walk}
 use Rattle.files.proofs.Walks.{stands-as, none-beyond, walk_none, walk-on, walk-stopped}
+use Rattle.files.proofs.walk.walk.Invariants.{Good}
 use Rattle.files.proofs.walk.walk.Goals as goal
-
--- a step is 0, or takes a good length and its byte
-abbrev Good : ℕ → Type 0
-Good step = (step ≡ 0 → ⊥) → good_length (step - 1) ≡ true
+use Rattle.files.proofs.walk.walk.Goals.{then-next-step+else-turns-eq-MOST_TURNS+else-not-good_length, else-next-step}
 
 -- the walk stays where a test fails
 stays : (used : ℕ) (bytes : List ℕ) (at i n : ℕ) → i ≤ n → at ≡ walk used bytes i → stands used bytes at ≡ false → at ≡ walk used bytes n
@@ -73,8 +69,10 @@ returns-then-not-ends_by c = let a = c.args in
     let n = c.wide-next in
     let s = c.if-next-step in
     let w : (s.step ≡ n.result + 1) × (good_length n.result ≡ true) =
-    ⊎_elim (λ q. (q.4, ap good_length (sym (one-back n.result)) ∙ sym q.2.ensures ∙ not-false _ q.3.left))
-    (λ q. (q.1 ∙ sym q.0.left, same_step l.step n.result q.0.left l.invariant.3)) s.branch in
+    elim s.branch [
+      | then-next-step+else-turns-eq-MOST_TURNS+else-not-good_length q ↦ (q.step-is, ap good_length (sym (one-back n.result)) ∙ sym q.good_length.ensures ∙ not-false _ q.if-not-good_length.false-raw)
+      | else-next-step q ↦ (let e : n.result + 1 ≡ l.step = omega (arith, q.if-next-step.false) in (q.step-is ∙ sym e, same_step l.step n.result e l.invariant.3))
+    ] in
     let t : leb (l.at + (n.result + 1)) a.used ≡ false = rw w.0 at (sym c.ends_by.ensures ∙ not-true _ c.if-not-ends_by.true-raw) in
     stays a.used a.bytes.now l.at l.i a.n l.invariant.0 l.invariant.1
     (stands-as a.used a.bytes.now l.at n.result true false n.ensures.is w.1 t)
@@ -97,10 +95,15 @@ loop-i-preserved c = let a = c.args in
     let n = c.wide-next in
     let s = c.if-next-step in
     let w : (s.step ≡ n.result + 1) × (good_length n.result ≡ true) =
-    ⊎_elim (λ q. (q.4, ap good_length (sym (one-back n.result)) ∙ sym q.2.ensures ∙ not-false _ q.3.left))
-    (λ q. (q.1 ∙ sym q.0.left, same_step l.step n.result q.0.left l.invariant.3)) s.branch in
+    elim s.branch [
+      | then-next-step+else-turns-eq-MOST_TURNS+else-not-good_length q ↦ (q.step-is, ap good_length (sym (one-back n.result)) ∙ sym q.good_length.ensures ∙ not-false _ q.if-not-good_length.false-raw)
+      | else-next-step q ↦ (let e : n.result + 1 ≡ l.step = omega (arith, q.if-next-step.false) in (q.step-is ∙ sym e, same_step l.step n.result e l.invariant.3))
+    ] in
     let t = sym c.ends_by.ensures ∙ not-false _ c.if-not-ends_by.false-raw in
-    let few : s.turns ≤ 32 = ⊎_elim (λ q. omega (arith, q.1.left, q.5, l.invariant.2)) (λ q. omega (arith, q.2, l.invariant.2)) s.branch in
+    let few : s.turns ≤ 32 = elim s.branch [
+      | then-next-step+else-turns-eq-MOST_TURNS+else-not-good_length q ↦ omega (arith, q.if-turns-eq-MOST_TURNS.false, q.turns-is, l.invariant.2)
+      | else-next-step q ↦ omega (arith, q.turns-is, l.invariant.2)
+    ] in
     (omega arith, moves a.used a.bytes.now l.at s.step l.i n.result l.invariant.1 n.ensures.is w.0 w.1 t, few, good-step s.step n.result w.0 w.1)
 
 pub returns : goal.returns

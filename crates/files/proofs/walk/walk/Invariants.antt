@@ -1,17 +1,13 @@
-use mathlib.Core.Path.{◌≡◌, refl, sym, ap, ◌∙◌}
-use mathlib.Core.Bool.{true, false}
-use mathlib.Core.List.{List}
-use mathlib.Core.Logic.{⊎_elim}
-use native.Mathlib.Omega.{arith}
-use native.Mathlib.Numerals.{add-one}
-use Prim.Native.Nat.{ℕ, ◌+◌, ◌-◌, ◌≤◌}
-use lib.Dec.{leb}
-use borrow.Author.Rules.{rules}
-use borrow.Author.Tests.{not-true, not-false, leb-true}
+use mathlib.Core.Path.{◌≡◌}
+use mathlib.Core.Bool.{true}
+use Prim.Native.Nat.{ℕ, ◌-◌, ◌≤◌}
 use Rattle.files.specs.Types.{good_length}
-use Rattle.files.specs.Walk.{length_at, stands, walk}
-use Rattle.files.proofs.Walks.{stands-as, none-beyond, walk_none, walk-on, walk-stopped}
+use Rattle.files.specs.Walk.{walk}
 use Rattle.files.proofs.walk.walk.Given as goal
+
+-- a step is 0, or takes a good length and its byte
+abbrev pub Good : ℕ → Type 0
+Good step = (step ≡ 0 → ⊥) → good_length (step - 1) ≡ true
 
 abbrev pub invariant-loop-i : goal.invariant-loop-i
 invariant-loop-i l = (l.i ≤ l.n) × (l.at ≡ walk l.used l.bytes l.i) × (l.turns ≤ 32) × Good l.step

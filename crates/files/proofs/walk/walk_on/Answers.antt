@@ -1,10 +1,10 @@
-use mathlib.Core.Path.{◌≡◌, refl, sym, ap, ◌∙◌}
-use mathlib.Core.Bool.{true, false}
+use mathlib.Core.Path.{◌≡◌, sym, ap, ◌∙◌}
+use mathlib.Core.Bool.{true}
 use native.Mathlib.Omega.{arith}
 use borrow.Author.Tests.{not-true, not-false}
-use Prim.Native.Nat.{ℕ, suc, ◌+◌, ◌-◌, ◌≤◌}
+use Prim.Native.Nat.{ℕ}
 use native.Mathlib.Numerals.{add-one}
-use Rattle.files.specs.Walk.{length_at, stands, walk}
+use Rattle.files.specs.Walk.{stands, walk}
 use Rattle.files.proofs.Walks.{stood, stood-in, walk-on, walk-stopped}
 use Rattle.files.proofs.walk.walk_on.Goals as goal
 

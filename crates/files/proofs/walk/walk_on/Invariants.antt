@@ -1,11 +1,6 @@
-use mathlib.Core.Path.{◌≡◌, refl, sym, ap, ◌∙◌}
-use mathlib.Core.Bool.{true, false}
-use native.Mathlib.Omega.{arith}
-use borrow.Author.Tests.{not-true, not-false}
-use Prim.Native.Nat.{ℕ, suc, ◌+◌, ◌-◌, ◌≤◌}
-use native.Mathlib.Numerals.{add-one}
-use Rattle.files.specs.Walk.{length_at, stands, walk}
-use Rattle.files.proofs.Walks.{stood, stood-in, walk-on, walk-stopped}
+use mathlib.Core.Path.{◌≡◌}
+use Prim.Native.Nat.{◌-◌, ◌≤◌}
+use Rattle.files.specs.Walk.{walk}
 use Rattle.files.proofs.walk.walk_on.Given as goal
 
 abbrev pub invariant-loop-k : goal.invariant-loop-k
