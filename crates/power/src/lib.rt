@@ -3,6 +3,7 @@
 
 // A store by its number: is there one, where it goes, and the byte.
 #![tactic(auto)]
+
 #[derive(Clone, Copy)]
 pub struct Numbered {
     pub there: bool,

@@ -1,4 +1,3 @@
-
 use Rattle.card.proofs.binary.binary_target.Goals as goal
 
 pub returns : goal.returns

@@ -1,4 +1,3 @@
-
 use Rattle.card.proofs.binary.code_asked_sw.Goals as goal
 
 pub returns : goal.returns

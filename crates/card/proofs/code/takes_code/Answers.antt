@@ -1,100 +1,58 @@
 use Rattle.rules.specs.List.{rule}
 use Rattle.card.proofs.code.takes_code.Goals as goal
 
-pub enum_told-1 : goal.enum_told-1
-enum_told-1 c = c.in-Select.keys1
-
-pub enum_told-in-ReadBinary : goal.enum_told-in-ReadBinary
-enum_told-in-ReadBinary c = c.in-ReadBinary.keys2
-
-pub enum_told-in-UpdateBinary : goal.enum_told-in-UpdateBinary
-enum_told-in-UpdateBinary c = c.in-UpdateBinary.keys3
-
-pub enum_told-in-ReadRecord : goal.enum_told-in-ReadRecord
-enum_told-in-ReadRecord c = c.in-ReadRecord.keys4
-
-pub enum_told-in-UpdateRecord : goal.enum_told-in-UpdateRecord
-enum_told-in-UpdateRecord c = c.in-UpdateRecord.keys5
-
-pub enum_told-in-AppendRecord : goal.enum_told-in-AppendRecord
-enum_told-in-AppendRecord c = c.in-AppendRecord.keys6
-
-pub enum_told-in-Verify : goal.enum_told-in-Verify
-enum_told-in-Verify c = c.in-Verify.keys7
-
-pub enum_told-in-Authenticate : goal.enum_told-in-Authenticate
-enum_told-in-Authenticate c = c.in-Authenticate.keys8
-
-pub enum_told-in-ChangePin : goal.enum_told-in-ChangePin
-enum_told-in-ChangePin c = c.in-ChangePin.keys9
-
-pub enum_told-in-ReloadPin : goal.enum_told-in-ReloadPin
-enum_told-in-ReloadPin c = c.in-ReloadPin.keys10
-
-pub enum_told-in-CreateFile : goal.enum_told-in-CreateFile
-enum_told-in-CreateFile c = c.in-CreateFile.keys11
-
-pub enum_told-in-GetChallenge : goal.enum_told-in-GetChallenge
-enum_told-in-GetChallenge c = c.in-GetChallenge.keys12
-
-pub enum_told-in-GetResponse : goal.enum_told-in-GetResponse
-enum_told-in-GetResponse c = c.in-GetResponse.keys13
-
-pub enum_told-in-Unlisted : goal.enum_told-in-Unlisted
-enum_told-in-Unlisted c = c.in-Unlisted.keys14
-
 pub returns-in-Select : goal.returns-in-Select
 unfolding rule
-returns-in-Select c = rw c.enum_told-1.given.1
+returns-in-Select c = rw c.in-Select.is
 
 pub returns-in-ReadBinary : goal.returns-in-ReadBinary
 unfolding rule
-returns-in-ReadBinary c = rw c.enum_told-in-ReadBinary-1.given.1
+returns-in-ReadBinary c = rw c.in-ReadBinary.is
 
 pub returns-in-UpdateBinary : goal.returns-in-UpdateBinary
 unfolding rule
-returns-in-UpdateBinary c = rw c.enum_told-in-UpdateBinary-1.given.1
+returns-in-UpdateBinary c = rw c.in-UpdateBinary.is
 
 pub returns-in-ReadRecord : goal.returns-in-ReadRecord
 unfolding rule
-returns-in-ReadRecord c = rw c.enum_told-in-ReadRecord-1.given.1
+returns-in-ReadRecord c = rw c.in-ReadRecord.is
 
 pub returns-in-UpdateRecord : goal.returns-in-UpdateRecord
 unfolding rule
-returns-in-UpdateRecord c = rw c.enum_told-in-UpdateRecord-1.given.1
+returns-in-UpdateRecord c = rw c.in-UpdateRecord.is
 
 pub returns-in-AppendRecord : goal.returns-in-AppendRecord
 unfolding rule
-returns-in-AppendRecord c = rw c.enum_told-in-AppendRecord-1.given.1
+returns-in-AppendRecord c = rw c.in-AppendRecord.is
 
 pub returns-in-Verify : goal.returns-in-Verify
 unfolding rule
-returns-in-Verify c = rw c.enum_told-in-Verify-1.given.1
+returns-in-Verify c = rw c.in-Verify.is
 
 pub returns-in-Authenticate : goal.returns-in-Authenticate
 unfolding rule
-returns-in-Authenticate c = rw c.enum_told-in-Authenticate-1.given.1
+returns-in-Authenticate c = rw c.in-Authenticate.is
 
 pub returns-in-ChangePin : goal.returns-in-ChangePin
 unfolding rule
-returns-in-ChangePin c = rw c.enum_told-in-ChangePin-1.given.1
+returns-in-ChangePin c = rw c.in-ChangePin.is
 
 pub returns-in-ReloadPin : goal.returns-in-ReloadPin
 unfolding rule
-returns-in-ReloadPin c = rw c.enum_told-in-ReloadPin-1.given.1
+returns-in-ReloadPin c = rw c.in-ReloadPin.is
 
 pub returns-in-CreateFile : goal.returns-in-CreateFile
 unfolding rule
-returns-in-CreateFile c = rw c.enum_told-in-CreateFile-1.given.1
+returns-in-CreateFile c = rw c.in-CreateFile.is
 
 pub returns-in-GetChallenge : goal.returns-in-GetChallenge
 unfolding rule
-returns-in-GetChallenge c = rw c.enum_told-in-GetChallenge-1.given.1
+returns-in-GetChallenge c = rw c.in-GetChallenge.is
 
 pub returns-in-GetResponse : goal.returns-in-GetResponse
 unfolding rule
-returns-in-GetResponse c = rw c.enum_told-in-GetResponse-1.given.1
+returns-in-GetResponse c = rw c.in-GetResponse.is
 
 pub returns-in-Unlisted : goal.returns-in-Unlisted
 unfolding rule
-returns-in-Unlisted c = rw c.enum_told-in-Unlisted-1.given.1
+returns-in-Unlisted c = rw c.in-Unlisted.is

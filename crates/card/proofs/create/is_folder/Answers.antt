@@ -1,4 +1,3 @@
-
 use Rattle.card.proofs.create.is_folder.Goals as goal
 
 pub returns : goal.returns

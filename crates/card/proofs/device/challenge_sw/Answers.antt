@@ -1,4 +1,3 @@
-
 use Rattle.card.proofs.device.challenge_sw.Goals as goal
 
 pub returns : goal.returns

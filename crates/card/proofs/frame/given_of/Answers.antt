@@ -1,4 +1,3 @@
-
 use Rattle.card.proofs.frame.given_of.Goals as goal
 
 pub returns : goal.returns

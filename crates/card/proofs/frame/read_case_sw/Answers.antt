@@ -1,4 +1,3 @@
-
 use Rattle.card.proofs.frame.read_case_sw.Goals as goal
 
 pub returns : goal.returns

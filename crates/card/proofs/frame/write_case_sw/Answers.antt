@@ -1,4 +1,3 @@
-
 use Rattle.card.proofs.frame.write_case_sw.Goals as goal
 
 pub returns : goal.returns

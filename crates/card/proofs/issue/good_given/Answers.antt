@@ -1,4 +1,3 @@
-
 use Rattle.card.proofs.issue.good_given.Goals as goal
 
 pub returns : goal.returns

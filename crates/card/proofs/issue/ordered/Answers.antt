@@ -1,4 +1,3 @@
-
 use Rattle.card.proofs.issue.ordered.Goals as goal
 
 pub returns : goal.returns

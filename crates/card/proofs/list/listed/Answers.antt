@@ -13,6 +13,10 @@ returns-then-both c = let at = c in
     let args = at.args in
     hit args.cla args.ins at.loop-i.i c.both.result c.both.ensures (omega arith) c.if-both.true ∙ sym at.loop-i.invariant.1
 
+pub loop-i-smaller : goal.loop-i-smaller
+unfolding rows
+loop-i-smaller c = search rules
+
 pub loop-i-preserved : goal.loop-i-preserved
 unfolding rows
 loop-i-preserved c = let at = c in

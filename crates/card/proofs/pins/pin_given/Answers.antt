@@ -1,4 +1,3 @@
-
 use Rattle.card.proofs.pins.pin_given.Goals as goal
 
 pub returns : goal.returns

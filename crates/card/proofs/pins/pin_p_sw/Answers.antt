@@ -1,4 +1,3 @@
-
 use Rattle.card.proofs.pins.pin_p_sw.Goals as goal
 
 pub returns : goal.returns

@@ -1,4 +1,3 @@
-
 use Rattle.card.proofs.pins.tried.Goals as goal
 
 pub returns-then-agrees : goal.returns-then-agrees

@@ -1,4 +1,3 @@
-
 use Rattle.card.proofs.pins.verify_late_sw.Goals as goal
 
 pub returns : goal.returns

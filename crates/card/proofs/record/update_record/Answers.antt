@@ -25,7 +25,7 @@ pub returns-then-sw : goal.returns-then-sw
 returns-then-sw c = λ card es aim ready.
     let a = c.args in
     let k = command_of a.h a.given.now in
-    let some : 1 ≤ record_target card k = omega (arith, ap (λ (y : Addressed). y.place) aim, c.if1.false) in
+    let some : 1 ≤ record_target card k = omega (arith, ap (λ (y : Addressed). y.place) aim, c.if-place-eq0.false) in
     let l = c.locate-l in
     let is : l.result ≡ record_found card a.area.now k = l.ensures ∙ found-there card a.area.now ready k a.x c.wide.result aim some c.wide.ensures.is in
     let e = c.record_lc_sw in
@@ -43,7 +43,7 @@ pub returns : goal.returns
 returns c = λ card es aim ready.
     let a = c.args in
     let k = command_of a.h a.given.now in
-    let some : 1 ≤ record_target card k = omega (arith, ap (λ (y : Addressed). y.place) aim, c.if1.false) in
+    let some : 1 ≤ record_target card k = omega (arith, ap (λ (y : Addressed). y.place) aim, c.if-place-eq0.false) in
     let l = c.locate-l in
     let is : l.result ≡ record_found card a.area.now k = l.ensures ∙ found-there card a.area.now ready k a.x c.wide.result aim some c.wide.ensures.is in
     let e = c.record_lc_sw in

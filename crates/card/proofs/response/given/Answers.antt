@@ -13,11 +13,8 @@ slice_bounds-with_waiting-end c = enough c.args.card c.args.all c.args.n c.requi
 pub overflow_add-n : goal.overflow_add-n
 overflow_add-n c = record { fits = omega (arith, c.requires.1, c.requires.2) }
 
-pub shape_of-reply : goal.shape_of-reply
-shape_of-reply c = c.reply2.given ∙ c.reply.given
-
 pub returns : goal.returns
 returns c = let a = c.args in
     let p = c.requires in
     gave a.card a.all a.n p.0 p.2 a.reply.now _ _ c.with_waiting-next.result c.answer.result p.1 p.3
-    c.show.ensures.left_is (c.put-sw.ensures ∙ rw (c.wait-sw.ensures, c.less.ensures)) c.with_waiting-next.ensures c.answer.ensures
+    c.show.ensures.left_is (c.put_sw.ensures ∙ rw (c.wait_sw.ensures, c.less.ensures)) c.with_waiting-next.ensures c.answer.ensures

@@ -1,4 +1,3 @@
-
 use Rattle.card.proofs.sound.good_challenge.Goals as goal
 
 pub returns : goal.returns

@@ -6,12 +6,6 @@ use Rattle.files.specs.Words.{all_below}
 use Rattle.files.proofs.Checks.{clash}
 use Rattle.card.proofs.sound.sound_logins.Goals as goal
 
-pub sound_at-requires : goal.sound_at-requires
-sound_at-requires c = (omega arith, λ k. clash true refl k)
-
-pub sound_at-requires-4 : goal.sound_at-requires-4
-sound_at-requires-4 c = (omega arith, λ k. clash true refl k)
-
 pub returns : goal.returns
 unfolding all_below
 returns c = c.both.ensures

@@ -1,4 +1,3 @@
-
 use Rattle.card.proofs.sound.zero_behind.Goals as goal
 
 pub returns-then-from-eq0 : goal.returns-then-from-eq0

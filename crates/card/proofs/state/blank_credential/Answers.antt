@@ -1,4 +1,3 @@
-
 use Rattle.card.proofs.state.blank_credential.Goals as goal
 
 pub returns : goal.returns

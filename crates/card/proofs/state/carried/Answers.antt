@@ -1,4 +1,3 @@
-
 use Rattle.card.proofs.state.carried.Goals as goal
 
 pub returns : goal.returns

@@ -1,4 +1,3 @@
-
 use Rattle.card.proofs.state.with_waiting.Goals as goal
 
 pub returns : goal.returns

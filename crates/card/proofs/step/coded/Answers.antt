@@ -14,10 +14,10 @@ use Rattle.card.proofs.Opening.{coded-off, coded-on, opens-heard, parts_are}
 use Rattle.card.proofs.step.coded.Goals as goal
 
 pub hear-heard-requires : goal.hear-heard-requires
-hear-heard-requires c = c.requires.0.1
+hear-heard-requires c = c.requires.h_value.1
 
 pub on_contents-done-requires : goal.on_contents-done-requires
-on_contents-done-requires c = c.requires.1
+on_contents-done-requires c = c.requires.le_bound
 
 pub returns-then-heard : goal.returns-then-heard
 unfolding target
@@ -26,10 +26,10 @@ returns-then-heard c = λ card random es ed ex ready tc.
     let heard = c.hear-heard in
     let g = c.given_of-given in
     let v = c.covered_of-covered in
-    let t = c.code_of_lem in
+    let t = c.code_of-tail in
     let hears = heard.ensures card es ex (key-whole card a.area.now ready 3 (omega arith) refl) in
     let opens = opens-heard a.h _ _ _ card heard.result a.ins c.front_sw-front.result c.front_sw-front.ensures tc hears in
-    let parts = parts_are a.cmd.now a.h _ _ _ c.requires.0.0 g.ensures t.ensures v.ensures in
+    let parts = parts_are a.cmd.now a.h _ _ _ c.requires.h_value.0 g.ensures t.ensures v.ensures in
     let place = c.at_sfi-place in
     let aim : c.addressed-x.result ≡ addressed card.directory (target card (sfi_asked a.ins (command_of a.h []))) =
     c.addressed-x.ensures ∙ ap₂ addressed (sym ed) (place.ensures ∙ rw (c.sfi_asked.ensures, ← es, ← ed)) in
@@ -43,10 +43,10 @@ returns c = λ card random es ed ex ready tc.
     let heard = c.hear-heard in
     let g = c.given_of-given in
     let v = c.covered_of-covered in
-    let t = c.code_of_lem in
+    let t = c.code_of-tail in
     let hears = heard.ensures card es ex (key-whole card a.area.now ready 3 (omega arith) refl) in
     let opens = opens-heard a.h _ _ _ card heard.result a.ins c.front_sw-front.result c.front_sw-front.ensures tc hears in
-    let parts = parts_are a.cmd.now a.h _ _ _ c.requires.0.0 g.ensures t.ensures v.ensures in
+    let parts = parts_are a.cmd.now a.h _ _ _ c.requires.h_value.0 g.ensures t.ensures v.ensures in
     let q = c.same_session in
     rw (← coded-off a.ins card a.area.now a.h _ _ _ random heard.result opens a.cmd.now parts c.if-heard.false)
     (carries-keyed card random a.area.now a.reply.now (answers heard.result.sw card) q.result _ _ heard.result.left c.leaving-2.result c.leaving-2.ensures

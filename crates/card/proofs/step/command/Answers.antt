@@ -20,10 +20,10 @@ shape_of-area-then-not-is_sound c = refl
 
 pub returns-then-not-is_sound : goal.returns-then-not-is_sound
 returns-then-not-is_sound c = let a = c.args in
-    refused-state a.card a.area.now a.cmd.now a.random.now a.reply.now c.if1.false c.if2.false c.if3.false (sym c.is_sound.ensures ∙ not-true _ c.if-not-is_sound.true-raw) c.answer-then-not-is_sound.result c.answer-then-not-is_sound.ensures
+    refused-state a.card a.area.now a.cmd.now a.random.now a.reply.now c.if-reply-lt-REPLY_SIZE.false c.if-area-ne-AREA_SIZE.false c.if-random-ne-RANDOM_SIZE.false (sym c.is_sound.ensures ∙ not-true _ c.if-not-is_sound.true-raw) c.answer-then-not-is_sound.result c.answer-then-not-is_sound.ensures
 
 pub step-requires : goal.step-requires
-step-requires c = (record { is-sound = sym c.is_sound.ensures ∙ not-false _ c.if-not-is_sound.false-raw; area-size = c.if2.false }, (c.if3.false, c.if1.false))
+step-requires c = record { ready = record { is-sound = sym c.is_sound.ensures ∙ not-false _ c.if-not-is_sound.false-raw; area-size = c.if-area-ne-AREA_SIZE.false };  random_len = (c.if-random-ne-RANDOM_SIZE.false, c.if-reply-lt-REPLY_SIZE.false) }
 
 pub shape_of-area : goal.shape_of-area
 shape_of-area c = c.area-1.given
@@ -33,4 +33,4 @@ shape_of-reply c = c.reply-1.given
 
 pub returns : goal.returns
 returns c = let a = c.args in
-    served-command a.card a.area.now a.cmd.now a.random.now a.reply.now c.if1.false c.if2.false c.if3.false (sym c.is_sound.ensures ∙ not-false _ c.if-not-is_sound.false-raw) c.step.result _ _ c.step.ensures
+    served-command a.card a.area.now a.cmd.now a.random.now a.reply.now c.if-reply-lt-REPLY_SIZE.false c.if-area-ne-AREA_SIZE.false c.if-random-ne-RANDOM_SIZE.false (sym c.is_sound.ensures ∙ not-false _ c.if-not-is_sound.false-raw) c.step.result _ _ c.step.ensures

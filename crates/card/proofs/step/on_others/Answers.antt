@@ -25,84 +25,42 @@ use Rattle.card.proofs.Serving.{create-from, create-says, create-shows, key-whol
 use Rattle.rules.specs.declared.Ins.{Ins}
 use Rattle.card.proofs.step.on_others.Goals as goal
 
-pub enum_told-1 : goal.enum_told-1
-enum_told-1 c = c.in-Select.keys1
-
-pub enum_told-in-ReadBinary : goal.enum_told-in-ReadBinary
-enum_told-in-ReadBinary c = c.in-ReadBinary.keys2
-
-pub enum_told-in-UpdateBinary : goal.enum_told-in-UpdateBinary
-enum_told-in-UpdateBinary c = c.in-UpdateBinary.keys3
-
-pub enum_told-in-ReadRecord : goal.enum_told-in-ReadRecord
-enum_told-in-ReadRecord c = c.in-ReadRecord.keys4
-
-pub enum_told-in-UpdateRecord : goal.enum_told-in-UpdateRecord
-enum_told-in-UpdateRecord c = c.in-UpdateRecord.keys5
-
-pub enum_told-in-AppendRecord : goal.enum_told-in-AppendRecord
-enum_told-in-AppendRecord c = c.in-AppendRecord.keys6
-
-pub enum_told-in-Verify : goal.enum_told-in-Verify
-enum_told-in-Verify c = c.in-Verify.keys7
-
 pub verify-requires : goal.verify-requires
 verify-requires c = c.pin_named-n.ensures
-
-pub enum_told-in-Authenticate : goal.enum_told-in-Authenticate
-enum_told-in-Authenticate c = c.in-Authenticate.keys8
-
-pub enum_told-in-ChangePin : goal.enum_told-in-ChangePin
-enum_told-in-ChangePin c = c.in-ChangePin.keys9
 
 pub change-requires : goal.change-requires
 change-requires c = c.pin_named-n.ensures
 
-pub enum_told-in-ReloadPin : goal.enum_told-in-ReloadPin
-enum_told-in-ReloadPin c = c.in-ReloadPin.keys10
-
-pub enum_told-in-CreateFile : goal.enum_told-in-CreateFile
-enum_told-in-CreateFile c = c.in-CreateFile.keys11
-
-pub enum_told-in-GetChallenge : goal.enum_told-in-GetChallenge
-enum_told-in-GetChallenge c = c.in-GetChallenge.keys12
-
 pub get_challenge-requires : goal.get_challenge-requires
 get_challenge-requires c = c.requires
-
-pub enum_told-in-GetResponse : goal.enum_told-in-GetResponse
-enum_told-in-GetResponse c = c.in-GetResponse.keys13
-
-pub enum_told-in-Unlisted : goal.enum_told-in-Unlisted
-enum_told-in-Unlisted c = c.in-Unlisted.keys14
 
 pub returns-in-Select : goal.returns-in-Select
 unfolding rest done rule
 returns-in-Select c = λ card es ed ex ready tc.
     let a = c.args in
     let k = command_of a.h a.given.now in
-    rw c.enum_told-1.given.1
+    rw c.in-Select.is
     (quiet-ruled card a.random.now a.area.now a.reply.now (first (select_checks card k)) (did card (select_deed card k)) c.select.result (select-quiet card k) (c.select.ensures card es ed))
 
 pub returns-in-ReadBinary : goal.returns-in-ReadBinary
 unfolding rule
-returns-in-ReadBinary c = λ card es ed ex ready tc. clash true refl (subst (λ (z : Ins). takes_code (rule z) ≡ false) c.enum_told-in-ReadBinary-1.given.1 tc)
+returns-in-ReadBinary c = λ card es ed ex ready tc. clash true refl (subst (λ (z : Ins). takes_code (rule z) ≡ false) c.in-ReadBinary.is tc)
 
 pub returns-in-UpdateBinary : goal.returns-in-UpdateBinary
 unfolding rule
-returns-in-UpdateBinary c = λ card es ed ex ready tc. clash true refl (subst (λ (z : Ins). takes_code (rule z) ≡ false) c.enum_told-in-UpdateBinary-1.given.1 tc)
+returns-in-UpdateBinary c = λ card es ed ex ready tc. clash true refl (subst (λ (z : Ins). takes_code (rule z) ≡ false) c.in-UpdateBinary.is tc)
 
 pub returns-in-ReadRecord : goal.returns-in-ReadRecord
 unfolding rule
-returns-in-ReadRecord c = λ card es ed ex ready tc. clash true refl (subst (λ (z : Ins). takes_code (rule z) ≡ false) c.enum_told-in-ReadRecord-1.given.1 tc)
+returns-in-ReadRecord c = λ card es ed ex ready tc. clash true refl (subst (λ (z : Ins). takes_code (rule z) ≡ false) c.in-ReadRecord.is tc)
 
 pub returns-in-UpdateRecord : goal.returns-in-UpdateRecord
 unfolding rule
-returns-in-UpdateRecord c = λ card es ed ex ready tc. clash true refl (subst (λ (z : Ins). takes_code (rule z) ≡ false) c.enum_told-in-UpdateRecord-1.given.1 tc)
+returns-in-UpdateRecord c = λ card es ed ex ready tc. clash true refl (subst (λ (z : Ins). takes_code (rule z) ≡ false) c.in-UpdateRecord.is tc)
 
 pub returns-in-AppendRecord : goal.returns-in-AppendRecord
 unfolding rule
-returns-in-AppendRecord c = λ card es ed ex ready tc. clash true refl (subst (λ (z : Ins). takes_code (rule z) ≡ false) c.enum_told-in-AppendRecord-1.given.1 tc)
+returns-in-AppendRecord c = λ card es ed ex ready tc. clash true refl (subst (λ (z : Ins). takes_code (rule z) ≡ false) c.in-AppendRecord.is tc)
 
 pub returns-in-Verify : goal.returns-in-Verify
 unfolding rest done rule
@@ -112,7 +70,7 @@ returns-in-Verify c = λ card es ed ex ready tc.
     let p = c.pin_of-pin in
     let n = c.pin_named-n in
     let pin : credential card n.result ≡ p.result = ap₂ (λ (y : List Credential) (z : ℕ). get_or y z no_credential) ex n.ensures.is ∙ sym p.ensures in
-    rw c.enum_told-in-Verify-1.given.1
+    rw c.in-Verify.is
     (rw (← verify-random card (logins card) k a.random.now)
     (quiet-ruled card a.random.now a.area.now a.reply.now (first (verify_checks (logins card) k)) (touched card (verify_touch (logins card) k) []) c.verify.result (verify-quiet card (logins card) k []) (c.verify.ensures card es pin)))
 
@@ -121,7 +79,7 @@ unfolding rest done rule
 returns-in-Authenticate c = λ card es ed ex ready tc.
     let a = c.args in
     let k = command_of a.h a.given.now in
-    rw c.enum_told-in-Authenticate-1.given.1
+    rw c.in-Authenticate.is
     (quiet-ruled card a.random.now a.area.now a.reply.now (first (authenticate_checks (logins card) (challenge card) k)) (touched card (authenticate_touch (logins card) (challenge card) k) []) c.authenticate.result (presents-quiet device card (cryptogram (login device card).value (challenge card)) k.given [])
     (c.authenticate.ensures card es (ap (λ (y : List Credential). get_or y 0 no_credential) ex) (key-whole card a.area.now ready 0 (omega arith) refl)))
 
@@ -133,7 +91,7 @@ returns-in-ChangePin c = λ card es ed ex ready tc.
     let p = c.pin_of-pin in
     let n = c.pin_named-n in
     let pin : credential card n.result ≡ p.result = ap₂ (λ (y : List Credential) (z : ℕ). get_or y z no_credential) ex n.ensures.is ∙ sym p.ensures in
-    rw c.enum_told-in-ChangePin-1.given.1
+    rw c.in-ChangePin.is
     (quiet-ruled card a.random.now a.area.now a.reply.now (first (change_checks (logins card) k)) (touched card (change_touch k) []) c.change.result refl (c.change.ensures card es (ap (λ (z : Credential). z.tries) pin)))
 
 pub returns-in-ReloadPin : goal.returns-in-ReloadPin
@@ -141,7 +99,7 @@ unfolding rest done rule
 returns-in-ReloadPin c = λ card es ed ex ready tc.
     let a = c.args in
     let k = command_of a.h a.given.now in
-    rw c.enum_told-in-ReloadPin-1.given.1
+    rw c.in-ReloadPin.is
     (quiet-ruled card a.random.now a.area.now a.reply.now (first (reload_checks (logins card) k)) (touched card (reload_touch k) []) c.reload.result refl
     (c.reload.ensures card es (ap (λ (y : List Credential). (get_or y 2 no_credential).tries) ex) (omega (arith, (sound-good card a.area.now ready.is-sound).all_there))))
 
@@ -150,7 +108,7 @@ unfolding rest done rule
 returns-in-CreateFile c = λ card es ed ex ready tc.
     let a = c.args in
     let k = command_of a.h a.given.now in
-    rw c.enum_told-in-CreateFile-1.given.1
+    rw c.in-CreateFile.is
     (stores-ruled card a.random.now a.area.now a.reply.now (first (create_checks card k)) (did card (create_deed card k)) c.create_file.result (create-says card k) (create-from card k) (create-shows card k) _ (c.create_file.ensures card es ed ready))
 
 pub returns-in-GetChallenge : goal.returns-in-GetChallenge
@@ -158,7 +116,7 @@ unfolding rest done rule get_challenge_checks
 returns-in-GetChallenge c = λ card es ed ex ready tc.
     let a = c.args in
     let k = command_of a.h a.given.now in
-    rw c.enum_told-in-GetChallenge-1.given.1
+    rw c.in-GetChallenge.is
     (says-ruled card a.random.now a.area.now a.reply.now (first (get_challenge_checks k)) (touched card (get_challenge_touch k) a.random.now) c.get_challenge.result refl refl refl refl _ c.requires.0 (c.get_challenge.ensures card es))
 
 pub returns-in-GetResponse : goal.returns-in-GetResponse
@@ -166,7 +124,7 @@ unfolding rest done rule
 returns-in-GetResponse c = λ card es ed ex ready tc.
     let a = c.args in
     let k = command_of a.h a.given.now in
-    rw c.enum_told-in-GetResponse-1.given.1
+    rw c.in-GetResponse.is
     (quiet card a.random.now a.area.now a.reply.now (answers 0x6D00 card) c.same_session-in-GetResponse.result refl (leaves-same card a.session es c.same_session-in-GetResponse.result 0x6D00 c.same_session-in-GetResponse.ensures))
 
 pub returns-in-Unlisted : goal.returns-in-Unlisted
@@ -174,5 +132,5 @@ unfolding rest done rule
 returns-in-Unlisted c = λ card es ed ex ready tc.
     let a = c.args in
     let k = command_of a.h a.given.now in
-    rw c.enum_told-in-Unlisted-1.given.1
+    rw c.in-Unlisted.is
     (quiet card a.random.now a.area.now a.reply.now (answers 0x6D00 card) c.same_session-in-Unlisted.result refl (leaves-same card a.session es c.same_session-in-Unlisted.result 0x6D00 c.same_session-in-Unlisted.ensures))

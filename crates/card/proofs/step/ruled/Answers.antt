@@ -24,7 +24,7 @@ returns-then-sw c = λ card es ed ex ready.
     let f = framed a.cmd.now in
     let o = c.or_else-sw in
     let sw : o.result ≡ or_else (frame_sw k) (class_sw k) = o.ensures ∙ rw (c.class_sw.ensures, c.frame_sw.ensures) in
-    let is : o.result ≡ or_else (frame_sw f) (class_sw f) = sw ∙ head-frames a.cmd.now a.h c.requires.0 in
+    let is : o.result ≡ or_else (frame_sw f) (class_sw f) = sw ∙ head-frames a.cmd.now a.h c.requires.h_value in
     let key : credential card 3 ≡ get_or a.credentials 3 no_credential = ap (λ (y : List Credential). get_or y 3 no_credential) ex in
     rw (← refuses a.ins card (record_found card a.area.now f) f a.random.now (λ e. c.if-sw.true (is ∙ e)))
     (quiet-whole card a.random.now a.area.now a.reply.now (or_else (frame_sw f) (class_sw f)) c.same_session.result
@@ -35,7 +35,7 @@ coded-requires c = let a = c.args in
     let k = command_of a.h [] in
     let o = c.or_else-sw in
     let sw : o.result ≡ or_else (frame_sw k) (class_sw k) = o.ensures ∙ rw (c.class_sw.ensures, c.frame_sw.ensures) in
-    ((c.requires.0, sym sw ∙ c.if-sw.false), (c.requires.1.0, c.requires.1.2))
+    record { h_value = (c.requires.h_value, sym sw ∙ c.if-sw.false); le_bound = (c.requires.le_bound.0, c.requires.le_bound.2) }
 
 pub returns-then-takes_code : goal.returns-then-takes_code
 returns-then-takes_code c = λ card es ed ex ready.
@@ -44,13 +44,13 @@ returns-then-takes_code c = λ card es ed ex ready.
     let f = framed a.cmd.now in
     let o = c.or_else-sw in
     let sw : o.result ≡ or_else (frame_sw k) (class_sw k) = o.ensures ∙ rw (c.class_sw.ensures, c.frame_sw.ensures) in
-    let is : o.result ≡ or_else (frame_sw f) (class_sw f) = sw ∙ head-frames a.cmd.now a.h c.requires.0 in
+    let is : o.result ≡ or_else (frame_sw f) (class_sw f) = sw ∙ head-frames a.cmd.now a.h c.requires.h_value in
     let key : credential card 3 ≡ get_or a.credentials 3 no_credential = ap (λ (y : List Credential). get_or y 3 no_credential) ex in
     rw (← obeys a.ins card (record_found card a.area.now f) f a.random.now (sym is ∙ c.if-sw.false))
     (c.coded.ensures card a.random.now es ed key ready (sym c.takes_code.ensures ∙ c.if-takes_code.true))
 
 pub on_others-done-requires : goal.on_others-done-requires
-on_others-done-requires c = (c.requires.1.1, c.requires.1.2)
+on_others-done-requires c = (c.requires.le_bound.1, c.requires.le_bound.2)
 
 pub returns : goal.returns
 returns c = λ card es ed ex ready.
@@ -59,7 +59,7 @@ returns c = λ card es ed ex ready.
     let f = framed a.cmd.now in
     let o = c.or_else-sw in
     let sw : o.result ≡ or_else (frame_sw k) (class_sw k) = o.ensures ∙ rw (c.class_sw.ensures, c.frame_sw.ensures) in
-    let is : o.result ≡ or_else (frame_sw f) (class_sw f) = sw ∙ head-frames a.cmd.now a.h c.requires.0 in
+    let is : o.result ≡ or_else (frame_sw f) (class_sw f) = sw ∙ head-frames a.cmd.now a.h c.requires.h_value in
     let key : credential card 3 ≡ get_or a.credentials 3 no_credential = ap (λ (y : List Credential). get_or y 3 no_credential) ex in
     let tc : takes_code (rule a.ins) ≡ false = sym c.takes_code.ensures ∙ c.if-takes_code.false in
     let w = c.on_others-done in
@@ -67,7 +67,7 @@ returns c = λ card es ed ex ready.
     let code = take (byte a.cmd.now 4 - lc_before a.cmd.now) (drop (5 + lc_before a.cmd.now) a.cmd.now) in
     let covered = take (5 + lc_before a.cmd.now) a.cmd.now in
     let opens = opens_plain a.h _ code covered card heard a.ins tc refl in
-    let parts = parts_are a.cmd.now a.h _ code covered c.requires.0 c.given_of-given.ensures refl refl in
+    let parts = parts_are a.cmd.now a.h _ code covered c.requires.h_value c.given_of-given.ensures refl refl in
     let left = ap (λ (z : Credential). z.tries.left) (sym key) in
     rw (← obeys a.ins card (record_found card a.area.now f) f a.random.now (sym is ∙ c.if-sw.false))
     (rw (← coded-on a.ins card a.area.now a.h _ code covered a.random.now heard opens a.cmd.now parts refl)
