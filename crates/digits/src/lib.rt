@@ -1,5 +1,6 @@
 // Digits, hex and decimal: written and read, one at a time, and the writer of fields.
 #![tactic(auto)]
+
 ghost use Rattle.std.specs.Prelude.{◌≡◌, ◌/◌, ◌%◌, ◌≤◌};
 ghost use Rattle.files.specs.Words.{Bounded};
 ghost use Rattle.digits.specs.Digits.{hex_digit, value, hex_pair};

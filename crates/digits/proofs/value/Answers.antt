@@ -1,5 +1,4 @@
 use Rattle.digits.proofs.Values.{value-digit, value-letter, value_none}
-use borrow.Author.Rules.{rules}
 use Rattle.digits.proofs.value.Goals as goal
 
 pub overflow_sub-result : goal.overflow_sub-result

@@ -1,5 +1,4 @@
 use Rattle.digits.proofs.Drawn.{draws-then}
-use borrow.Author.Rules.{rules}
 use Rattle.digits.proofs.page.number_field.Goals as goal
 
 pub returns : goal.returns

@@ -1,5 +1,4 @@
 use Rattle.digits.proofs.Drawn.{put-done, put-none}
-use borrow.Author.Rules.{rules}
 use Rattle.digits.proofs.page.put.Goals as goal
 
 pub returns-then-at-out : goal.returns-then-at-out

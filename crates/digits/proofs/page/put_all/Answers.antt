@@ -1,7 +1,4 @@
-use Prim.Native.Nat.{◌-◌}
-use mathlib.Core.Path.{◌≡◌, refl, sym, ◌∙◌}
-use lib.ListN.{length, drop}
-use Rattle.digits.specs.Page.{page, draw}
+use mathlib.Core.Path.{refl, sym, ◌∙◌}
 use Rattle.digits.proofs.Drawn.{all_more, all_end}
 use borrow.Author.Rules.{rules}
 use Rattle.digits.proofs.page.put_all.Goals as goal

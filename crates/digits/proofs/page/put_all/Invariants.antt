@@ -1,9 +1,7 @@
 use Prim.Native.Nat.{◌-◌}
-use mathlib.Core.Path.{◌≡◌, refl, sym, ◌∙◌}
+use mathlib.Core.Path.{◌≡◌}
 use lib.ListN.{length, drop}
 use Rattle.digits.specs.Page.{page, draw}
-use Rattle.digits.proofs.Drawn.{all_more, all_end}
-use borrow.Author.Rules.{rules}
 use Rattle.digits.proofs.page.put_all.Given as goal
 
 abbrev pub invariant-loop-i : goal.invariant-loop-i

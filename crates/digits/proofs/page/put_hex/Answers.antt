@@ -1,8 +1,4 @@
-use Prim.Native.Nat.{◌-◌}
-use mathlib.Core.Path.{◌≡◌, refl, sym, ◌∙◌}
-use lib.ListN.{length, drop}
-use Rattle.digits.specs.Digits.{hex_of}
-use Rattle.digits.specs.Page.{page, draw}
+use mathlib.Core.Path.{refl, sym, ◌∙◌}
 use Rattle.digits.proofs.Drawn.{hex-more, hex-end}
 use borrow.Author.Rules.{rules}
 use Rattle.digits.proofs.page.put_hex.Goals as goal

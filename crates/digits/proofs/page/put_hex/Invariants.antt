@@ -1,10 +1,8 @@
 use Prim.Native.Nat.{◌-◌}
-use mathlib.Core.Path.{◌≡◌, refl, sym, ◌∙◌}
+use mathlib.Core.Path.{◌≡◌}
 use lib.ListN.{length, drop}
 use Rattle.digits.specs.Digits.{hex_of}
 use Rattle.digits.specs.Page.{page, draw}
-use Rattle.digits.proofs.Drawn.{hex-more, hex-end}
-use borrow.Author.Rules.{rules}
 use Rattle.digits.proofs.page.put_hex.Given as goal
 
 abbrev pub invariant-loop-i : goal.invariant-loop-i

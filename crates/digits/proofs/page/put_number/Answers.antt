@@ -1,8 +1,7 @@
-use Prim.Native.Nat.{suc, ◌+◌, ◌^◌, ◌<◌}
-use mathlib.Core.Path.{◌≡◌, refl, ◌∙◌}
-use mathlib.Core.List.{◌++◌, append-nil}
-use lib.ListN.{length, drop, length-set}
-use Rattle.digits.specs.Digits.{digits_in, decimal}
+use mathlib.Core.Path.{refl, ◌∙◌}
+use mathlib.Core.List.{append-nil}
+use lib.ListN.{length-set}
+use Rattle.digits.specs.Digits.{digits_in}
 use Rattle.digits.proofs.Decimal.{decimal-as, place-left, found-more, found_all}
 use Rattle.digits.proofs.Drawn.{draws-as}
 use borrow.Author.Rules.{rules}
@@ -21,9 +20,9 @@ loop-tens-preserved c = let l = c.loop-tens in
     (search rules, length-set l.digits l.from c.last_digit.result ∙ l.invariant.1, more.0, more.1)
 
 pub slice_bounds-put_all-end : goal.slice_bounds-put_all-end
-slice_bounds-put_all-end c = let l = c.loop in omega (arith, length-set l.digits l.from c.last-digit2.result, l.invariant.1)
+slice_bounds-put_all-end c = let l = c.loop-tens in omega (arith, length-set l.digits l.from c.last_digit-2.result, l.invariant.1)
 
 pub returns : goal.returns
-returns c = let l = c.loop in
-    draws-as _ _ _ _ c.put_all_lem.ensures
-    (found_all l.digits _ l.tens _ c.last-digit2.ensures 10 l.from l.invariant.1 l.invariant.0 l.invariant.3 (omega arith))
+returns c = let l = c.loop-tens in
+    draws-as _ _ _ _ c.put_all.ensures
+    (found_all l.digits _ l.tens _ c.last_digit-2.ensures 10 l.from l.invariant.1 l.invariant.0 l.invariant.3 (omega arith))

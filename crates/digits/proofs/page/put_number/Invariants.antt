@@ -1,12 +1,8 @@
 use Prim.Native.Nat.{suc, ◌+◌, ◌^◌, ◌<◌}
-use mathlib.Core.Path.{◌≡◌, refl, ◌∙◌}
-use mathlib.Core.List.{◌++◌, append-nil}
-use lib.ListN.{length, drop, length-set}
+use mathlib.Core.Path.{◌≡◌}
+use mathlib.Core.List.{◌++◌}
+use lib.ListN.{length, drop}
 use Rattle.digits.specs.Digits.{digits_in, decimal}
-use Rattle.digits.proofs.Decimal.{decimal-as, place-left, found-more, found_all}
-use Rattle.digits.proofs.Drawn.{draws-as}
-use borrow.Author.Rules.{rules}
-use native.Mathlib.Omega.{arith}
 use Rattle.digits.proofs.page.put_number.Given as goal
 
 abbrev pub invariant-loop-tens : goal.invariant-loop-tens

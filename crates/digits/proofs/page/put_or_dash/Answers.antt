@@ -1,7 +1,6 @@
 use mathlib.Core.Path.{◌∙◌, ap}
 use Rattle.digits.specs.Page.{page, draw}
 use Rattle.digits.proofs.Written.{dash-none, dash-some}
-use borrow.Author.Rules.{rules}
 use Rattle.digits.proofs.page.put_or_dash.Goals as goal
 
 pub returns-then-bytes-eq0 : goal.returns-then-bytes-eq0
