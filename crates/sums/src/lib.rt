@@ -1,5 +1,6 @@
 // Alarm records, and their totals for each line and kind (R-12). A public function has no requirement.
 #![tactic(auto)]
+
 ghost use Rattle.std.specs.Prelude.{◌≡◌, false, ◌+◌, ◌-◌, ◌*◌, ◌≤◌};
 ghost use Rattle.files.specs.Words.{Bounded};
 ghost use Rattle.sums.specs.Alarm.{good};

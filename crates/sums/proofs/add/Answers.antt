@@ -1,17 +1,15 @@
 use mathlib.Core.Path.{sym, ◌∙◌}
-use borrow.Author.Tests.{not-true, not-false}
 use Rattle.sums.proofs.Adding.{good-bounds}
 use Rattle.sums.specs.Kept.{more, plus}
-use borrow.Author.Rules.{rules}
 use Rattle.sums.proofs.add.Goals as goal
 
 pub returns-then-not-is_good : goal.returns-then-not-is_good
 unfolding plus more
-returns-then-not-is_good c = rw (sym c.is_good.ensures ∙ not-true _ c.if-not-is_good.true-raw)
+returns-then-not-is_good c = rw (sym c.is_good.ensures ∙ c.if-not-is_good.true)
 
 pub place-i-requires : goal.place-i-requires
-place-i-requires c = good-bounds _ (sym c.is_good.ensures ∙ not-false _ c.if-not-is_good.false-raw)
+place-i-requires c = good-bounds _ (sym c.is_good.ensures ∙ c.if-not-is_good.false)
 
 pub returns : goal.returns
 unfolding plus more
-returns c = rw (c.wide32-n.ensures.is, c.wide32.ensures.is, c.wide16.ensures.is, c.place-i.ensures.is, sym c.is_good.ensures ∙ not-false _ c.if-not-is_good.false-raw)
+returns c = rw (c.wide32-n.ensures.is, c.wide32.ensures.is, c.wide16.ensures.is, c.place-i.ensures.is, sym c.is_good.ensures ∙ c.if-not-is_good.false)

@@ -1,6 +1,5 @@
 use mathlib.Core.Path.{◌∙◌}
 use Rattle.sums.specs.Alarm.{good}
-use borrow.Author.Rules.{rules}
 use Rattle.sums.proofs.is_good.Goals as goal
 
 pub returns : goal.returns

@@ -1,4 +1,3 @@
-use borrow.Author.Rules.{rules}
 use Rattle.sums.proofs.no_batch.Goals as goal
 
 pub returns : goal.returns
