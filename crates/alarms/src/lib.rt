@@ -1,5 +1,6 @@
 // Alarms of many boxes: read from lines of text, summed at most 1,000 at a time, and told as a table (R-12). A public function has no requirement.
 #![tactic(auto)]
+
 use sums::{Alarm, Totals};
 
 pub mod scanning; // scanning.rt: a line of text, byte by byte

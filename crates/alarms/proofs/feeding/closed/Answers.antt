@@ -1,6 +1,5 @@
 use mathlib.Core.Path.{sym, ◌∙◌}
 use Rattle.alarms.specs.Feed.{closed}
-use borrow.Author.Rules.{rules}
 use Rattle.alarms.proofs.feeding.closed.Goals as goal
 
 pub returns-then-is_open : goal.returns-then-is_open

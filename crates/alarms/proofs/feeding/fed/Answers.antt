@@ -1,8 +1,5 @@
-use Prim.Native.Nat.{◌-◌, ◌≤◌}
-use mathlib.Core.Path.{◌≡◌, refl, sym, ap, ◌∙◌}
-use lib.ListN.{length, drop}
+use mathlib.Core.Path.{refl, sym, ap, ◌∙◌}
 use Rattle.sums.specs.declared.Summed.{Summed}
-use Rattle.alarms.specs.Feed.{feed_of, fed_all}
 use Rattle.alarms.proofs.Fed.{fed-skip, fed-room, fed-full, fed-end}
 use borrow.Author.Rules.{rules}
 use Rattle.alarms.proofs.feeding.fed.Goals as goal

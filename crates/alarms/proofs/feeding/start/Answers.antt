@@ -1,4 +1,3 @@
-use borrow.Author.Rules.{rules}
 use Rattle.alarms.proofs.feeding.start.Goals as goal
 
 pub returns : goal.returns

@@ -1,6 +1,5 @@
 use mathlib.Core.Path.{refl}
 use Rattle.sums.specs.Alarm.{alarm_of}
-use borrow.Author.Rules.{rules}
 use Rattle.alarms.proofs.scanning.alarm_of.Goals as goal
 
 pub returns : goal.returns

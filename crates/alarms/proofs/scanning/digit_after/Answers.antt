@@ -1,6 +1,5 @@
 use borrow.Author.Tests.{lt-ltb, le-ltb}
 use Rattle.alarms.specs.Feed.{digit_after}
-use borrow.Author.Rules.{rules}
 use Rattle.alarms.proofs.scanning.digit_after.Goals as goal
 
 pub returns-then-v-lt16 : goal.returns-then-v-lt16

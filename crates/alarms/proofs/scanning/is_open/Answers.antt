@@ -1,5 +1,4 @@
 use Rattle.alarms.specs.Feed.{is_open}
-use borrow.Author.Rules.{rules}
 use Rattle.alarms.proofs.scanning.is_open.Goals as goal
 
 pub returns : goal.returns

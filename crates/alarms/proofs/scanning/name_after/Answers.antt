@@ -1,6 +1,5 @@
 use borrow.Author.Tests.{lt-ltb, le-ltb, eq-eqb, ne_eqb}
 use Rattle.alarms.specs.Feed.{name_after}
-use borrow.Author.Rules.{rules}
 use Rattle.alarms.proofs.scanning.name_after.Goals as goal
 
 pub returns-then-at-eq0 : goal.returns-then-at-eq0

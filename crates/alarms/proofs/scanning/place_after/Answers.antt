@@ -1,7 +1,6 @@
 use mathlib.Core.Path.{◌∙◌}
 use borrow.Author.Tests.{lt-ltb, le-ltb}
 use Rattle.alarms.specs.Feed.{place_after}
-use borrow.Author.Rules.{rules}
 use Rattle.alarms.proofs.scanning.place_after.Goals as goal
 
 pub returns-then-at-lt-AFTER_TAB : goal.returns-then-at-lt-AFTER_TAB

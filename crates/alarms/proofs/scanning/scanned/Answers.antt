@@ -1,7 +1,6 @@
 use mathlib.Core.Path.{◌∙◌}
 use borrow.Author.Tests.{eq-eqb, ne_eqb}
 use Rattle.alarms.specs.Feed.{scanned}
-use borrow.Author.Rules.{rules}
 use Rattle.alarms.proofs.scanning.scanned.Goals as goal
 
 pub returns-then-b-eq-NEWLINE : goal.returns-then-b-eq-NEWLINE

@@ -1,6 +1,5 @@
 use borrow.Author.Tests.{lt-ltb, le-ltb}
 use Rattle.alarms.specs.Feed.{word_after}
-use borrow.Author.Rules.{rules}
 use Rattle.alarms.proofs.scanning.word_after.Goals as goal
 
 pub returns-then-at-lt-AFTER_TAB : goal.returns-then-at-lt-AFTER_TAB

@@ -1,6 +1,5 @@
 use Rattle.digits.proofs.Drawn.{draws-then}
 use Rattle.alarms.specs.Report.{refused}
-use borrow.Author.Rules.{rules}
 use Rattle.alarms.proofs.telling.put_refusal.Goals as goal
 
 pub returns : goal.returns

@@ -1,5 +1,4 @@
 use Rattle.alarms.proofs.Rows.{row-none, row-some}
-use borrow.Author.Rules.{rules}
 use Rattle.alarms.proofs.telling.put_row.Goals as goal
 
 pub returns-then-count-eq0 : goal.returns-then-count-eq0

@@ -1,8 +1,3 @@
-use Prim.Native.Nat.{◌-◌, ◌≤◌}
-use mathlib.Core.Path.{◌≡◌}
-use lib.ListN.{length, get_or}
-use Rattle.alarms.specs.Report.{rows}
-use Rattle.digits.specs.Page.{page, draw}
 use Rattle.alarms.proofs.Rows.{rows_none, rows_more, rows_all}
 use borrow.Author.Rules.{rules}
 use Rattle.alarms.proofs.telling.put_rows.Goals as goal

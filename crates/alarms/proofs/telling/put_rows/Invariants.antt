@@ -3,8 +3,6 @@ use mathlib.Core.Path.{◌≡◌}
 use lib.ListN.{length, get_or}
 use Rattle.alarms.specs.Report.{rows}
 use Rattle.digits.specs.Page.{page, draw}
-use Rattle.alarms.proofs.Rows.{rows_none, rows_more, rows_all}
-use borrow.Author.Rules.{rules}
 use Rattle.alarms.proofs.telling.put_rows.Given as goal
 
 abbrev pub invariant-loop-i : goal.invariant-loop-i

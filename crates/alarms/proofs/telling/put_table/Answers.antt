@@ -1,8 +1,7 @@
 use Rattle.digits.proofs.Drawn.{draws-then}
 use Rattle.alarms.specs.Feed.{table_of}
-use borrow.Author.Rules.{rules}
 use Rattle.alarms.proofs.telling.put_table.Goals as goal
 
 pub returns : goal.returns
 unfolding table_of
-returns c = draws-then _ _ _ _ _ c.put_all_lem.ensures c.put_rows.ensures
+returns c = draws-then _ _ _ _ _ c.put_all-a.ensures c.put_rows.ensures

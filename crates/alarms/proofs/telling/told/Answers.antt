@@ -1,7 +1,6 @@
 use Rattle.alarms.proofs.Told.{tells-refusal, tells-table}
 use mathlib.Core.Path.{ap}
 use Rattle.sums.specs.declared.Summed.{Summed}
-use borrow.Author.Rules.{rules}
 use Rattle.alarms.proofs.telling.told.Goals as goal
 
 pub returns-then-refusal-ne0 : goal.returns-then-refusal-ne0
