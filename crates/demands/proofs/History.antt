@@ -41,7 +41,7 @@ use Rattle.rules.specs.List.{listed, is_get_response, rule}
 use Rattle.demands.specs.Role.{Role, role}
 use Rattle.rules.specs.Response.{wait_sw}
 use Rattle.rules.specs.Step.{did, touched, checks, effect_of, kept, sw_of, ruled, outcome, settled, at_once, step}
-use Rattle.rules.specs.Calls.{answer, served, command}
+use Rattle.rules.specs.Calls.{answer, command}
 use Rattle.rules.proofs.Good.{sound-good, sound-parted}
 use Rattle.rules.proofs.Targets.{place-named}
 use Rattle.demands.specs.Ledger.{Event, sent, resets, Kind, right as rightly, kind, kind_in, is_held, opens_right, Label, Tag, no_label, label_given, tag_given, size_of, label_in, tag_in, Ledger, page, select_sw, servable, ledger, HeldIn}

@@ -155,7 +155,7 @@ tagged-high [] n l m = absurd (omega arith)
 tagged-high (x ∷ earlier) n l m =
     by_cases (ℕ_discrete n (suc (length earlier)))
     (λ q. rw (eq-eqb n (suc (length earlier)) q, eq-eqb (fid_of_tag x) (fid_of_tag x) refl) m)
-    (λ o. rw (ne_eqb n (suc (length earlier)) o)
+    (λ o. let here : tag_in earlier n ≡ tag_in (x ∷ earlier) n = rw (ne_eqb n (suc (length earlier)) o) in subst (λ (g : Tag). n ≤ tagged (fid_of_tag g) (x ∷ earlier)) here
     (split (λ z. n ≤ z) (eqb (fid_of_tag x) (fid_of_tag (tag_in earlier n))) (λ e. m) (λ e. tagged-high earlier n l (omega (arith, m, o)))))
 
 -- ---- the current directory
