@@ -38,7 +38,7 @@ use Rattle.demands.specs.Held.{value_no, left_no, limit_no, AsksCode}
 use Rattle.demands.proofs.Coding.{code-of-bytes}
 use Rattle.served.specs.Left.{with_key_tries, Ask, Refused}
 use Rattle.served.specs.Answers.{WithCode, CodeAgrees, AsksContents}
-use Rattle.served.proofs.Steps.{first_on, first_stops, word, effect_in, checks-by, Checked, refuses, Sends, checked}
+use Rattle.served.proofs.Steps.{first_after, first_stops, word, effect_in, checks-by, Checked, refuses, Sends, checked}
 use Rattle.served.proofs.Credentials.{some_to, to_some, challenge-long}
 
 -- ---- the comparison, in a command that counts four bytes or more
@@ -88,7 +88,7 @@ first-fails (a ∷ b ∷ l) more sw o e =
 pub first_passes : (l more : List ℕ) → first l ≡ 0x9000 → first (l ++ more) ≡ first more
 unfolding or_else
 first_passes [] more e = refl
-first_passes (a ∷ []) more e = rw e (first_on more)
+first_passes (a ∷ []) more e = first_after a more e
 first_passes (a ∷ b ∷ l) more e =
     split (λ n. n ≡ 0x9000 → first ((a ∷ b ∷ l) ++ more) ≡ first more) (eqb a 0x9000)
     (λ t q. rw t (first_passes (b ∷ l) more q)) (λ t q. absurd (eqb-false a 0x9000 t q)) e
@@ -165,16 +165,18 @@ module _ {c : Card} {area cmd random : List ℕ} {i : Ins} (r : Sends c area cmd
 
   module _ (passed : first (f (framed cmd)) ≡ 0x9000) where
     word_on : word i c area (framed cmd) ≡ first (code_sw (logins c) (challenge c) (framed cmd) ∷ t c (record_found c area (framed cmd)) (framed cmd))
-    word_on = word-is ∙ rw passed (first_on (code_sw (logins c) (challenge c) k ∷ t c l k))
+    word_on = word-is ∙ first_after (first (f k)) (code_sw (logins c) (challenge c) k ∷ t c l k) passed
 
     tried-on : first (first (f (framed cmd)) ∷ tried) ≡ first tried
-    tried-on = rw passed (first_on tried)
+    tried-on = first_after (first (f k)) tried passed
 
     -- no code
     pub uncoded : (WithCode cmd → ⊥)
         → Checked c area (first (t c (record_found c area (framed cmd)) (framed cmd))) (did c (d c (record_found c area (framed cmd)) (framed cmd))) (step c area cmd random)
     unfolding code_sw
-    uncoded o = from-word c (first (t c l k)) (uncoded-left o) refl refl (word_on ∙ rw (ne_eqb (framed cmd).cla 0x04 o) (first_on (t c l k)))
+    uncoded o =
+        let none : code_sw (logins c) (challenge c) k ≡ 0x9000 = rw (ne_eqb (framed cmd).cla 0x04 o) in
+        from-word c (first (t c l k)) (uncoded-left o) refl refl (word_on ∙ first_after (code_sw (logins c) (challenge c) k) (t c l k) none)
 
     module _ (w : WithCode cmd) where
       -- the checks of a code, in a row
@@ -206,7 +208,7 @@ module _ {c : Card} {area cmd random : List ℕ} {i : Ins} (r : Sends c area cmd
             (did (with_key_tries c (limit_no c 3)) (d c (record_found c area (framed cmd)) (framed cmd))) (step c area cmd random)
         right-goes-on a =
             let code : code_sw (logins c) (challenge c) k ≡ 0x9000 = compared ∙ rw a in
-            from-word (with_key_tries c (limit_no c 3)) (first (t c l k)) (compared-left true w (tried-on ∙ ready) a) refl refl (word_on ∙ rw code (first_on (t c l k)))
+            from-word (with_key_tries c (limit_no c 3)) (first (t c l k)) (compared-left true w (tried-on ∙ ready) a) refl refl (word_on ∙ first_after (code_sw (logins c) (challenge c) k) (t c l k) code)
 
   -- with a code, from what holds of the file's checks on the card that it leaves
   with_code : (Next : Type 0) → first (f (framed cmd)) ≡ 0x9000 → WithCode cmd → 4 ≤ lc_sent cmd

@@ -15,6 +15,6 @@ pub mod Unknown
 pub mod Response
 pub mod Sound
 pub mod One
-pub mod Hidden
+pub mod Unread
 pub mod Pushed
 pub mod Transport

@@ -43,6 +43,10 @@ unfolding or_else
 first_on [] = refl
 first_on (b ∷ more) = refl
 
+-- the same of a word that is 9000
+pub first_after : (sw : ℕ) (more : List ℕ) → sw ≡ 0x9000 → first (sw ∷ more) ≡ first more
+first_after sw more e = ap (λ (x : ℕ). first (x ∷ more)) e ∙ first_on more
+
 pub first_stops : (sw : ℕ) (more : List ℕ) → (sw ≡ 0x9000 → ⊥) → first (sw ∷ more) ≡ sw
 unfolding or_else
 first_stops sw [] o = refl
@@ -186,13 +190,15 @@ module _ {c : Card} {area : List ℕ} {w : ℕ} {e : Effect} {s : Stepped} (r : 
     where
       go : (t : Bool) → is_zero (target c sfi) ≡ t → AsksFile c area random cmd s sfi next
       go true z = (
-        λ none. refuses 0x6A82 (λ y. omega (arith, y)) (q.is ∙ rw z (first_stops 0x6A82 more (λ y. omega (arith, y)))),
+        λ none. refuses 0x6A82 (λ y. omega (arith, y))
+            (q.is ∙ ap (λ (b : Bool). first (unless (not b) 0x6A82 ∷ more)) z ∙ first_stops 0x6A82 more (λ y. omega (arith, y))),
         λ n v. absurd (omega (arith, eqb-true (target c sfi) 0 z, named-target c (sound-good c area r.card-sound) sfi n v, v.there.first)),
       )
       go false z =
-          let there = target-named c (sound-good c area r.card-sound) sfi (not-zero (target c sfi) z) in (
+          let there = target-named c (sound-good c area r.card-sound) sfi (not-zero (target c sfi) z) in
+          let found : file_sw (target c sfi) ≡ 0x9000 = rw z in (
             λ none. absurd (none (target c sfi) there),
-            λ n v. subst next (named-target c (sound-good c area r.card-sound) sfi n v) (f there (record { is = q.is ∙ rw z (first_on more) })),
+            λ n v. subst next (named-target c (sound-good c area r.card-sound) sfi n v) (f there (record { is = q.is ∙ first_after (file_sw (target c sfi)) more found })),
           )
 
 -- a command on a sound card, by its name
