@@ -1,5 +1,6 @@
 // The store of a command that is asked for by its number (R-10). Here are those of each kind of change; what is `requires`d of numbers keeps sums from wrapping.
 #![tactic(auto)]
+
 ghost use Rattle.std.specs.Prelude.{◌≡◌, [], ◌∷◌, ◌++◌, cond, ◌+◌, ◌-◌, ◌*◌, ◌≤◌, ◌<◌, length, get_or};
 ghost use Rattle.files.specs.Words.{Bounded};
 ghost use Rattle.files.specs.Part.{zeros};

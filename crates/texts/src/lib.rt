@@ -1,5 +1,6 @@
 // A card written as lines, and read from them: request R-4; the form without directories, and its conversion: R-8.
 #![tactic(auto)]
+
 mod load; // load.rt: what a text says
 mod scan; // scan.rt: digits and fields read
 mod text; // text.rt: the lines of a card

@@ -25,10 +25,10 @@ returns-then-is_folder c = let a = c.args in
 
 pub make_store-requires : goal.make_store-requires
 make_store-requires c = let a = c.args in (
-      omega (arith, c.wide-2.ensures.is, create-place a.card (command_of a.h a.given.now) (sym c.create_sw-sw.ensures ∙ c.if-sw.false) (sym c.is_folder.ensures ∙ c.if-is_folder.false)),
-      omega (arith, c.end.ensures.low),
-      omega (arith, c.size.ensures.low),
-    )
+  omega (arith, c.wide-2.ensures.is, create-place a.card (command_of a.h a.given.now) (sym c.create_sw-sw.ensures ∙ c.if-sw.false) (sym c.is_folder.ensures ∙ c.if-is_folder.false)),
+  omega (arith, c.end.ensures.low),
+  omega (arith, c.size.ensures.low),
+)
 
 pub returns : goal.returns
 returns c = let a = c.args in

@@ -1,4 +1,3 @@
-
 use Rattle.texts.proofs.calls.to_new.Goals as goal
 
 pub shape_of-out : goal.shape_of-out

@@ -1,4 +1,3 @@
-
 use Rattle.texts.proofs.load.rights_in.Goals as goal
 
 pub returns : goal.returns

@@ -1,4 +1,3 @@
-
 use Rattle.texts.proofs.scan.ends.Goals as goal
 
 pub returns : goal.returns

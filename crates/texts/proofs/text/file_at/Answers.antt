@@ -4,4 +4,4 @@ use borrow.Author.Rules.{rules}
 use Rattle.texts.proofs.text.file_at.Goals as goal
 
 pub returns : goal.returns
-returns c = (refl, c.well_formed.0.1.1.0.1.0.1)
+returns c = (refl, sym (length-map c.args.d.files _) ∙ c.well_formed.0.1.1.0.1.0.1)

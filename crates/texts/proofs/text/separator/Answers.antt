@@ -1,4 +1,3 @@
-
 use Rattle.texts.proofs.text.separator.Goals as goal
 
 pub returns-then-form : goal.returns-then-form
