@@ -10,13 +10,11 @@ use lib.Dec.{eqb, leb, ltb}
 use lib.ListN.{length, take, drop, get_or, set, length-take}
 use borrow.Author.Tests.{leb-true, ltb-true, eqb-true}
 use Rattle.files.specs.declared.File.{File}
-use Rattle.files.specs.declared.Folder.{Folder}
 use Rattle.files.specs.declared.Directory.{Directory}
 use Rattle.files.specs.Part.{over, zeros}
 use Rattle.files.specs.State.{blank_file, blank_folder, with_files, with_folders}
 use Rattle.files.proofs.Checks.{clash, both}
 use Rattle.rules.specs.declared.Card.{Card}
-use Rattle.rules.specs.declared.Credential.{Credential}
 use Rattle.rules.specs.Words.{filled}
 use Rattle.rules.specs.State.{no_credential, with_credentials, with_directory}
 use Rattle.power.specs.Journal.{credential, entry, is_pin, is_entry, with_value_of, with_known, redo}

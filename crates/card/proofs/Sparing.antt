@@ -17,7 +17,7 @@ use Rattle.rules.specs.declared.Ins.{Ins}
 use Rattle.rules.specs.declared.Ins.TheVariants.{Select, ReadBinary, UpdateBinary, ReadRecord, UpdateRecord, AppendRecord, Verify, Authenticate, ChangePin, ReloadPin, CreateFile, GetChallenge, GetResponse, Unlisted}
 use Rattle.rules.specs.Words.{same}
 use Rattle.rules.specs.Tries.{restored}
-use Rattle.rules.specs.State.{admin, user, transport, number_of, no_credential, credential, logins, challenge, credential_of, with_tries, with_credentials}
+use Rattle.rules.specs.State.{admin, user, number_of, no_credential, credential, logins, challenge, credential_of, with_tries, with_credentials}
 use Rattle.rules.specs.Frame.{Command}
 use Rattle.rules.specs.Effect.{Deed, turns, enters, shows, stores, appends, makes, founds, Touch, nothing, presents, changes, reloads, challenges, Effect, effect, answers}
 use Rattle.rules.specs.Pins.{compared_at}

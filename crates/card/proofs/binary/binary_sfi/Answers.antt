@@ -1,5 +1,4 @@
 use mathlib.Core.Path.{sym, ◌∙◌}
-use borrow.Author.Tests.{eq-eqb, ne_eqb}
 use Rattle.card.proofs.binary.binary_sfi.Goals as goal
 
 pub returns-then-by_sfi : goal.returns-then-by_sfi

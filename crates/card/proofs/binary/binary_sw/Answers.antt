@@ -1,5 +1,3 @@
-use Rattle.files.specs.Types.{size}
-use Rattle.rules.specs.Words.{unless}
 use Rattle.card.proofs.binary.binary_sw.Goals as goal
 
 pub returns : goal.returns

@@ -3,10 +3,9 @@ use mathlib.Core.List.{[]}
 use native.Mathlib.Omega.{arith}
 use Rattle.files.specs.declared.Addressed.{Addressed}
 use Rattle.rules.specs.Words.{first}
-use Rattle.rules.specs.Binary.{offset, read_binary_checks, read_binary_deed}
+use Rattle.rules.specs.Binary.{read_binary_checks, read_binary_deed}
 use Rattle.rules.specs.Step.{did}
 use Rattle.card.specs.Head.{command_of}
-use Rattle.card.specs.Carried.{carried}
 use Rattle.card.proofs.Carrying.{leaves-same, refused-shows}
 use Rattle.card.proofs.Serving.{binary-read, no-binary-read, read-binary-checked}
 use Rattle.card.proofs.binary.read_binary.Goals as goal

@@ -1,5 +1,5 @@
 use Prim.Native.Nat.{◌-◌, min}
-use mathlib.Core.Path.{◌≡◌, ap, ap₂, ◌∙◌}
+use mathlib.Core.Path.{ap, ap₂, ◌∙◌}
 use borrow.Author.Tests.{ne_eqb}
 use Rattle.rules.specs.Binary.{read_count}
 use Rattle.card.proofs.binary.read_count.Goals as goal

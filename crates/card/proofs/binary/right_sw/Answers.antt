@@ -1,6 +1,3 @@
-use borrow.Author.Rules.{rules}
-use Rattle.rules.specs.Words.{unless}
-use Rattle.rules.specs.State.{marked}
 use Rattle.card.proofs.binary.right_sw.Goals as goal
 
 pub returns : goal.returns

@@ -2,10 +2,9 @@ use mathlib.Core.Path.{◌∙◌, ◌≡◌, ap, sym}
 use native.Mathlib.Omega.{arith}
 use Rattle.files.specs.declared.Addressed.{Addressed}
 use Rattle.rules.specs.Words.{first}
-use Rattle.rules.specs.Binary.{offset, update_binary_checks, update_binary_deed}
+use Rattle.rules.specs.Binary.{update_binary_checks, update_binary_deed}
 use Rattle.rules.specs.Step.{did}
 use Rattle.card.specs.Head.{command_of}
-use Rattle.card.specs.Carried.{carried}
 use Rattle.card.proofs.Carrying.{leaves-same, refused-stores}
 use Rattle.card.proofs.Serving.{binary-updated, no-binary-updated, update-binary-checked}
 use Rattle.card.proofs.binary.update_binary.Goals as goal

@@ -1,5 +1,5 @@
 use mathlib.Core.Path.{◌∙◌}
-use Rattle.rules.specs.Binary.{offset, update_binary_checks}
+use Rattle.rules.specs.Binary.{update_binary_checks}
 use Rattle.card.specs.Head.{command_of}
 use Rattle.card.proofs.binary.update_binary_sw.Goals as goal
 

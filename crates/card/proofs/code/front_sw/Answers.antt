@@ -1,7 +1,6 @@
 use mathlib.Core.Path.{◌∙◌}
 use Rattle.rules.specs.List.{rule}
 use Rattle.card.specs.Coded.{front}
-use borrow.Author.Rules.{rules}
 use Rattle.card.proofs.code.front_sw.Goals as goal
 
 pub returns-in-Select : goal.returns-in-Select

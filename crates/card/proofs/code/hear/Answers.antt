@@ -2,15 +2,13 @@ use mathlib.Core.Path.{◌∙◌, ◌≡◌, ap, ap₂, sym}
 use mathlib.Core.List.{[]}
 use Rattle.rules.specs.declared.Session.{Session}
 use Rattle.rules.specs.declared.Credential.{Credential}
-use Rattle.rules.specs.Words.{or_else, unless}
+use Rattle.rules.specs.Words.{or_else}
 use Rattle.rules.specs.State.{challenge, login, transport}
 use Rattle.rules.specs.Pins.{tries_sw}
 use Rattle.rules.specs.Device.{challenge_sw}
 use Rattle.card.specs.Head.{coded_of}
 use Rattle.card.specs.Parts.{code_under}
-use Rattle.card.specs.Carried.{whole}
-use Rattle.rules.specs.Tries.{tried}
-use Rattle.card.specs.Coded.{front, heard_so}
+use Rattle.card.specs.Coded.{heard_so}
 use Rattle.card.proofs.Hearing.{no_code, presented-code, refused-code}
 use Rattle.card.proofs.code.hear.Goals as goal
 

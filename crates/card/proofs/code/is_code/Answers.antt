@@ -1,4 +1,3 @@
-use borrow.Author.Rules.{rules}
 use Rattle.card.proofs.code.is_code.Goals as goal
 
 pub returns : goal.returns

@@ -1,5 +1,4 @@
 use mathlib.Core.Path.{◌∙◌}
-use Rattle.rules.specs.Words.{same}
 use Rattle.card.proofs.code.is_code_under.Goals as goal
 
 pub returns : goal.returns

@@ -2,13 +2,12 @@ use mathlib.Core.Path.{◌∙◌, ◌≡◌, ap, sym}
 use mathlib.Core.Bool.{false, true}
 use Prim.Native.Nat.{◌+◌}
 use native.Mathlib.Omega.{arith}
-use Rattle.files.specs.Directory.{end}
 use Rattle.rules.specs.Words.{first}
 use Rattle.rules.specs.Create.{create_checks, create_deed, is_folder}
 use Rattle.rules.specs.Step.{did}
 use Rattle.card.specs.Head.{command_of}
 use Rattle.card.specs.Parts.{seen}
-use Rattle.card.specs.Carried.{carried, with_entry, with_new}
+use Rattle.card.specs.Carried.{with_entry, with_new}
 use Rattle.card.proofs.Carrying.{leaves-same, refused-stores}
 use Rattle.card.proofs.Serving.{create-few, file-created, folder-created}
 use Rattle.card.specs.declared.Carried.{Carried}

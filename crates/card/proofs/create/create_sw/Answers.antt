@@ -1,6 +1,3 @@
-use borrow.Author.Rules.{rules}
-use Rattle.files.specs.Words.{two}
-use Rattle.rules.specs.Words.{unless}
 use Rattle.rules.specs.Create.{create_checks, creation_right, good_folder_given}
 use Rattle.card.proofs.create.create_sw.Goals as goal
 

@@ -10,7 +10,7 @@ use Rattle.rules.specs.Pins.{compared_at}
 use Rattle.rules.specs.Device.{authenticate_checks, authenticate_touch, cryptogram}
 use Rattle.rules.specs.Step.{touched}
 use Rattle.card.specs.Head.{command_of}
-use Rattle.card.specs.Carried.{Leaves, whole}
+use Rattle.card.specs.Carried.{Leaves}
 use Rattle.card.proofs.Carrying.{goes_on, leaves-same, refused-quietly}
 use Rattle.card.proofs.Outcomes.{authenticate-checked, compared-leaves}
 use Rattle.rules.specs.Effect.{Effect}

@@ -4,7 +4,6 @@ use Rattle.rules.specs.Words.{first}
 use Rattle.rules.specs.Device.{get_challenge_checks, get_challenge_touch}
 use Rattle.rules.specs.Step.{touched}
 use Rattle.card.specs.Head.{command_of}
-use Rattle.card.specs.Carried.{carried}
 use Rattle.card.proofs.Carrying.{leaves-same, refused_says}
 use Rattle.card.proofs.Serving.{challenge-shown}
 use Rattle.card.proofs.device.get_challenge.Goals as goal

@@ -1,7 +1,6 @@
 use mathlib.Core.Path.{ap, ◌∙◌}
 use Rattle.rules.specs.Frame.{case_of, long_case}
 use borrow.Author.Tests.{eq-eqb, ne_eqb, lt-ltb, le-ltb}
-use borrow.Author.Rules.{rules}
 use Rattle.card.proofs.frame.case_of.Goals as goal
 
 pub returns-then-n-lt4 : goal.returns-then-n-lt4

@@ -1,5 +1,5 @@
 use native.Mathlib.Omega.{arith}
-use borrow.Author.Tests.{eq-eqb, ne_eqb, lt-ltb, le-ltb}
+use borrow.Author.Tests.{eq-eqb, ne_eqb}
 use Rattle.card.proofs.frame.le_of.Goals as goal
 
 pub returns-then-b-eq0 : goal.returns-then-b-eq0

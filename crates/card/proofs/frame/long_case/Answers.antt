@@ -1,5 +1,4 @@
-use borrow.Author.Tests.{eq-eqb, ne_eqb, lt-ltb, le-ltb}
-use borrow.Author.Rules.{rules}
+use borrow.Author.Tests.{eq-eqb, ne_eqb}
 use Rattle.card.proofs.frame.long_case.Goals as goal
 
 pub returns-then-lc-eq0 : goal.returns-then-lc-eq0

@@ -1,6 +1,5 @@
 use mathlib.Core.Path.{◌∙◌, ap}
 use Prim.Native.Nat.{min}
-use borrow.Author.Rules.{rules}
 use Rattle.card.proofs.Bytes.{data-part}
 use Rattle.card.proofs.frame.part_of.Goals as goal
 

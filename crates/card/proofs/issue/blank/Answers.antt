@@ -1,5 +1,4 @@
 use Rattle.files.specs.Part.{over}
-use borrow.Author.Rules.{rules}
 use Rattle.card.proofs.issue.blank.Goals as goal
 
 pub returns : goal.returns

@@ -1,4 +1,3 @@
-use mathlib.Core.Path.{◌∙◌}
 use Rattle.card.proofs.issue.cut.Goals as goal
 
 pub returns : goal.returns

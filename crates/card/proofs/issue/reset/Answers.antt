@@ -4,7 +4,6 @@ use lib.ListN.{length}
 use borrow.Author.Tests.{not-true, not-false, eq-eqb, ne_eqb}
 use Rattle.rules.specs.Sound.{sound}
 use Rattle.rules.specs.Calls.{reset}
-use borrow.Author.Rules.{rules}
 use Rattle.card.proofs.issue.reset.Goals as goal
 
 pub returns-then-area-ne-AREA_SIZE : goal.returns-then-area-ne-AREA_SIZE

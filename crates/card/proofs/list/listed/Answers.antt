@@ -1,10 +1,8 @@
 use native.Mathlib.Omega.{arith}
 use Rattle.card.proofs.Rows.{hit, miss, past}
 use borrow.Author.Rules.{rules}
-use Prim.Native.Nat.{◌≤◌, ◌-◌}
-use mathlib.Core.Path.{◌≡◌, ◌∙◌, sym}
-use lib.ListN.{length, drop}
-use Rattle.rules.specs.List.{rows, find}
+use mathlib.Core.Path.{◌∙◌, sym}
+use Rattle.rules.specs.List.{rows}
 use Rattle.card.proofs.list.listed.Goals as goal
 
 pub returns-then-both : goal.returns-then-both

@@ -1,8 +1,5 @@
-use native.Mathlib.Omega.{arith}
-use Rattle.card.proofs.Rows.{hit, miss, past}
-use borrow.Author.Rules.{rules}
 use Prim.Native.Nat.{◌≤◌, ◌-◌}
-use mathlib.Core.Path.{◌≡◌, ◌∙◌, sym}
+use mathlib.Core.Path.{◌≡◌}
 use lib.ListN.{length, drop}
 use Rattle.rules.specs.List.{rows, find}
 use Rattle.card.proofs.list.listed.Given as goal

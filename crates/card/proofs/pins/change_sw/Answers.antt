@@ -1,4 +1,3 @@
-use Rattle.rules.specs.Words.{unless}
 use Rattle.rules.specs.Pins.{change_checks}
 use Rattle.card.proofs.pins.change_sw.Goals as goal
 

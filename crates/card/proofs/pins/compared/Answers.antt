@@ -1,4 +1,3 @@
-use Rattle.rules.specs.Tries.{tried}
 use Rattle.card.proofs.pins.compared.Goals as goal
 
 pub with_credential-requires : goal.with_credential-requires

@@ -1,5 +1,4 @@
 use borrow.Author.Tests.{lt-ltb, le-ltb}
-use borrow.Author.Rules.{rules}
 use Rattle.card.proofs.pins.count_sw.Goals as goal
 
 pub returns-then-left-lt15 : goal.returns-then-left-lt15

@@ -1,7 +1,6 @@
 use mathlib.Core.Path.{◌≡◌, sym, ap, ◌∙◌}
 use native.Mathlib.Omega.{arith}
-use borrow.Author.Rules.{rules}
-use lib.ListN.{length, length-map, get_or-eq_default}
+use lib.ListN.{length, get_or-eq_default}
 use Rattle.rules.specs.declared.Credential.{Credential}
 use Rattle.rules.specs.Words.{same}
 use Rattle.rules.specs.State.{how_many, no_credential, value_of}

@@ -1,12 +1,10 @@
 use mathlib.Core.Path.{◌∙◌, ◌≡◌, ap, sym}
 use mathlib.Core.List.{[]}
 use native.Mathlib.Omega.{arith}
-use borrow.Author.Rules.{rules}
 use lib.ListN.{get_or}
 use Rattle.rules.specs.declared.Session.{Session}
 use Rattle.rules.specs.Words.{first}
 use Rattle.rules.specs.State.{logins, marked, right_kept}
-use Rattle.rules.specs.Tries.{restored}
 use Rattle.rules.specs.Pins.{reload_checks, reload_touch}
 use Rattle.rules.specs.Step.{touched}
 use Rattle.card.specs.Head.{command_of}

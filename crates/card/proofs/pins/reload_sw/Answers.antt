@@ -1,4 +1,3 @@
-use Rattle.rules.specs.Words.{unless}
 use Rattle.rules.specs.Pins.{reload_checks}
 use Rattle.card.proofs.pins.reload_sw.Goals as goal
 

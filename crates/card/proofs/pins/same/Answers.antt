@@ -1,9 +1,9 @@
-use Prim.Native.Nat.{◌≤◌, ◌-◌, min}
+use Prim.Native.Nat.{min}
 use mathlib.Core.Path.{◌≡◌}
 use native.Mathlib.Omega.{arith}
 use lib.ListN.{length}
 use borrow.Author.Rules.{rules}
-use Rattle.card.proofs.Bytewise.{GatheredTo, gathered_none, gathered-more, gathered-all}
+use Rattle.card.proofs.Bytewise.{gathered_none, gathered-more, gathered-all}
 use Rattle.card.proofs.pins.same.Goals as goal
 
 pub loop-i-init : goal.loop-i-init

@@ -1,9 +1,5 @@
-use Prim.Native.Nat.{◌≤◌, ◌-◌, min}
-use mathlib.Core.Path.{◌≡◌}
-use native.Mathlib.Omega.{arith}
-use lib.ListN.{length}
-use borrow.Author.Rules.{rules}
-use Rattle.card.proofs.Bytewise.{GatheredTo, gathered_none, gathered-more, gathered-all}
+use Prim.Native.Nat.{◌≤◌, ◌-◌}
+use Rattle.card.proofs.Bytewise.{GatheredTo}
 use Rattle.card.proofs.pins.same.Given as goal
 
 abbrev pub invariant-loop-i : goal.invariant-loop-i

@@ -1,4 +1,3 @@
-use Rattle.rules.specs.Words.{unless}
 use Rattle.rules.specs.Pins.{verify_checks}
 use Rattle.card.proofs.pins.verify_sw.Goals as goal
 

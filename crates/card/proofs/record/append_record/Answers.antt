@@ -5,7 +5,7 @@ use Rattle.rules.specs.Words.{first}
 use Rattle.rules.specs.Record.{append_checks, append_deed}
 use Rattle.rules.specs.Step.{did}
 use Rattle.card.specs.Head.{command_of}
-use Rattle.card.specs.Carried.{carried, with_entry}
+use Rattle.card.specs.Carried.{with_entry}
 use Rattle.card.proofs.Carrying.{leaves-same, refused-stores}
 use Rattle.card.proofs.Serving.{append-checked, no-record-appended, record-appended}
 use Rattle.card.specs.declared.Carried.{Carried}

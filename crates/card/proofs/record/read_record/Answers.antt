@@ -7,7 +7,6 @@ use Rattle.rules.specs.Words.{first}
 use Rattle.rules.specs.Record.{read_record_checks, read_record_deed, record_found, record_target}
 use Rattle.rules.specs.Step.{did}
 use Rattle.card.specs.Head.{command_of}
-use Rattle.card.specs.Carried.{carried}
 use Rattle.card.proofs.Carrying.{leaves-same, refused-shows}
 use Rattle.card.proofs.Serving.{found-there, no-record-read, read-record-checked, record-read}
 use Rattle.card.proofs.record.read_record.Goals as goal

@@ -1,4 +1,3 @@
-use borrow.Author.Rules.{rules}
 use Rattle.card.proofs.record.record_le_sw.Goals as goal
 
 pub returns : goal.returns

@@ -1,4 +1,3 @@
-use Rattle.rules.specs.Words.{unless}
 use Rattle.card.proofs.record.record_sw.Goals as goal
 
 pub returns : goal.returns

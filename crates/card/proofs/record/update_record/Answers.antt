@@ -6,7 +6,6 @@ use Rattle.rules.specs.Words.{first}
 use Rattle.rules.specs.Record.{record_found, record_target, update_record_checks, update_record_deed}
 use Rattle.rules.specs.Step.{did}
 use Rattle.card.specs.Head.{command_of}
-use Rattle.card.specs.Carried.{carried}
 use Rattle.card.proofs.Carrying.{leaves-same, refused-stores}
 use Rattle.card.proofs.Serving.{found-given, found-there, no-record-updated, record-updated, update-record-checked}
 use Rattle.card.proofs.record.update_record.Goals as goal

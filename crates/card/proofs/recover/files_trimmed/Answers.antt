@@ -1,10 +1,6 @@
-use Prim.Native.Nat.{◌-◌}
-use mathlib.Core.List.{[]}
-use mathlib.Core.Path.{◌≡◌, refl, sym, ◌∙◌}
-use lib.ListN.{length, length-map}
-use borrow.Author.Rules.{rules}
-use Rattle.files.specs.State.{blank_file, with_files}
-use Rattle.power.specs.Recovery.{trim}
+use mathlib.Core.Path.{◌≡◌, refl, ◌∙◌}
+use lib.ListN.{length}
+use Rattle.files.specs.State.{blank_file}
 use Rattle.card.proofs.Recovering.{trim-more, files-done}
 use Rattle.card.proofs.recover.files_trimmed.Goals as goal
 

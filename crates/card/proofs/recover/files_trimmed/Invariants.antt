@@ -1,11 +1,8 @@
 use Prim.Native.Nat.{◌-◌}
 use mathlib.Core.List.{[]}
-use mathlib.Core.Path.{◌≡◌, refl, sym, ◌∙◌}
-use lib.ListN.{length, length-map}
-use borrow.Author.Rules.{rules}
+use mathlib.Core.Path.{◌≡◌}
 use Rattle.files.specs.State.{blank_file, with_files}
 use Rattle.power.specs.Recovery.{trim}
-use Rattle.card.proofs.Recovering.{trim-more, files-done}
 use Rattle.card.proofs.recover.files_trimmed.Given as goal
 
 abbrev pub invariant-loop-i : goal.invariant-loop-i

@@ -1,4 +1,3 @@
-use borrow.Author.Rules.{rules}
 use Rattle.card.proofs.Recovering.{value-redone}
 use Rattle.card.proofs.recover.redo_credential.Goals as goal
 

@@ -1,4 +1,3 @@
-use borrow.Author.Rules.{rules}
 use Rattle.card.proofs.Recovering.{entry-redone}
 use Rattle.card.proofs.recover.redo_entry.Goals as goal
 

@@ -1,5 +1,4 @@
 use mathlib.Core.Path.{sym, ◌∙◌}
-use borrow.Author.Rules.{rules}
 use Rattle.card.proofs.Recovering.{pin-low, entry-low, redone-pin, redone-entry, redone-none}
 use Rattle.card.proofs.recover.redone.Goals as goal
 

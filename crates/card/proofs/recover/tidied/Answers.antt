@@ -1,5 +1,4 @@
 use mathlib.Core.Path.{◌∙◌}
-use borrow.Author.Rules.{rules}
 use Rattle.power.specs.Recovery.{tidied}
 use Rattle.card.proofs.recover.tidied.Goals as goal
 

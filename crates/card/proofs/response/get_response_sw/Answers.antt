@@ -1,5 +1,4 @@
 use Rattle.rules.specs.Response.{get_response_checks}
-use borrow.Author.Rules.{rules}
 use Rattle.card.proofs.response.get_response_sw.Goals as goal
 
 pub returns : goal.returns

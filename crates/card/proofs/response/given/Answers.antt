@@ -1,7 +1,6 @@
 use native.Mathlib.Omega.{arith}
 use mathlib.Core.Path.{◌∙◌}
 use Rattle.card.proofs.Fetching.{enough, gave}
-use borrow.Author.Rules.{rules}
 use Rattle.card.proofs.response.given.Goals as goal
 
 pub put_sw-requires : goal.put_sw-requires

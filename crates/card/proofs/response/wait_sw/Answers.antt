@@ -1,6 +1,5 @@
 use borrow.Author.Tests.{eq-eqb, ne_eqb}
 use Rattle.rules.specs.Response.{wait_sw}
-use borrow.Author.Rules.{rules}
 use Rattle.card.proofs.response.wait_sw.Goals as goal
 
 pub returns-then-n-eq0 : goal.returns-then-n-eq0

@@ -1,9 +1,5 @@
-use mathlib.Core.Path.{◌≡◌, sym, ◌∙◌, refl}
-use mathlib.Core.Bool.{◌&&◌}
-use Prim.Native.Nat.{◌-◌, ◌≤◌}
-use lib.ListN.{length, drop}
+use mathlib.Core.Path.{sym, ◌∙◌, refl}
 use borrow.Author.Rules.{rules}
-use Rattle.rules.specs.Words.{all_of}
 use Rattle.rules.specs.Sound.{digit}
 use Rattle.card.proofs.Passing.{pass-more, pass-end}
 use Rattle.card.proofs.sound.all_digits.Goals as goal

@@ -1,9 +1,4 @@
-use mathlib.Core.Path.{◌≡◌, sym, ◌∙◌, refl}
-use mathlib.Core.Bool.{◌&&◌}
-use Prim.Native.Nat.{◌-◌}
-use lib.ListN.{length, drop}
-use borrow.Author.Rules.{rules}
-use Rattle.rules.specs.Words.{all_of}
+use mathlib.Core.Path.{sym, ◌∙◌, refl}
 use Rattle.files.specs.Words.{is_zero}
 use Rattle.card.proofs.Passing.{pass-more, pass-end}
 use Rattle.card.proofs.sound.all_zero.Goals as goal

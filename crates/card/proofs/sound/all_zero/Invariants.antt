@@ -1,11 +1,9 @@
-use mathlib.Core.Path.{◌≡◌, sym, ◌∙◌, refl}
+use mathlib.Core.Path.{◌≡◌}
 use mathlib.Core.Bool.{◌&&◌}
 use Prim.Native.Nat.{◌-◌}
 use lib.ListN.{length, drop}
-use borrow.Author.Rules.{rules}
 use Rattle.rules.specs.Words.{all_of}
 use Rattle.files.specs.Words.{is_zero}
-use Rattle.card.proofs.Passing.{pass-more, pass-end}
 use Rattle.card.proofs.sound.all_zero.Given as goal
 
 abbrev pub invariant-loop-i : goal.invariant-loop-i

@@ -1,11 +1,8 @@
-use Prim.Native.Nat.{◌-◌, ◌≤◌}
-use mathlib.Core.Bool.{◌&&◌}
 use mathlib.Core.Path.{◌≡◌, sym, ◌∙◌}
-use lib.ListN.{length, drop}
+use lib.ListN.{length}
 use native.Mathlib.Omega.{arith}
 use borrow.Author.Rules.{rules}
-use Rattle.card.specs.Places.{pin_fits, challenge_fits}
-use Rattle.card.proofs.Fitting.{place_at, zeros_behind, digits_before, zeros-start, digits-start, zeros-again, digits-again, zeros-end, digits-end}
+use Rattle.card.proofs.Fitting.{place_at, zeros-start, digits-start, zeros-again, digits-again, zeros-end, digits-end}
 use Rattle.card.proofs.sound.fits.Goals as goal
 
 pub loop-i-init : goal.loop-i-init

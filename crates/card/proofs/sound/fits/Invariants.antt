@@ -1,11 +1,9 @@
 use Prim.Native.Nat.{◌-◌, ◌≤◌}
 use mathlib.Core.Bool.{◌&&◌}
-use mathlib.Core.Path.{◌≡◌, sym, ◌∙◌}
-use lib.ListN.{length, drop}
-use native.Mathlib.Omega.{arith}
-use borrow.Author.Rules.{rules}
+use mathlib.Core.Path.{◌≡◌}
+use lib.ListN.{drop}
 use Rattle.card.specs.Places.{pin_fits, challenge_fits}
-use Rattle.card.proofs.Fitting.{place_at, zeros_behind, digits_before, zeros-start, digits-start, zeros-again, digits-again, zeros-end, digits-end}
+use Rattle.card.proofs.Fitting.{zeros_behind, digits_before}
 use Rattle.card.proofs.sound.fits.Given as goal
 
 abbrev pub invariant-loop-i : goal.invariant-loop-i

@@ -1,4 +1,3 @@
-use mathlib.Core.Path.{◌≡◌, ◌∙◌}
 use Rattle.card.proofs.sound.fits_pin.Goals as goal
 
 pub returns-then-inside : goal.returns-then-inside

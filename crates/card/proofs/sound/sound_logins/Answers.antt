@@ -1,9 +1,5 @@
-use mathlib.Core.Bool.{true}
-use mathlib.Core.Path.{◌∙◌, refl}
-use native.Mathlib.Omega.{arith}
-use borrow.Author.Rules.{rules}
+use mathlib.Core.Path.{◌∙◌}
 use Rattle.files.specs.Words.{all_below}
-use Rattle.files.proofs.Checks.{clash}
 use Rattle.card.proofs.sound.sound_logins.Goals as goal
 
 pub returns : goal.returns

@@ -1,5 +1,4 @@
 use Rattle.rules.specs.Sound.{sound_tries}
-use borrow.Author.Rules.{rules}
 use Rattle.card.proofs.sound.sound_tries.Goals as goal
 
 pub returns : goal.returns

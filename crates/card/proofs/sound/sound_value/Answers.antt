@@ -1,8 +1,8 @@
 use mathlib.Core.Bool.{true, false}
-use mathlib.Core.Path.{◌≡◌, sym, ap, ◌∙◌}
+use mathlib.Core.Path.{◌≡◌, sym, ◌∙◌}
 use lib.ListN.{length}
 use borrow.Author.Rules.{rules}
-use borrow.Author.Tests.{not-false, eq-eqb}
+use borrow.Author.Tests.{eq-eqb}
 use Rattle.rules.specs.Sound.{is_key, good_value, sound_value}
 use Rattle.card.proofs.Values.{key-kept, pin-kept}
 use Rattle.card.proofs.sound.sound_value.Goals as goal

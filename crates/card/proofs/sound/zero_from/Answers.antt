@@ -1,10 +1,7 @@
 use mathlib.Core.Path.{◌≡◌, sym, ◌∙◌, refl}
-use mathlib.Core.Bool.{◌&&◌}
-use Prim.Native.Nat.{◌-◌}
-use lib.ListN.{length, drop}
+use lib.ListN.{length}
 use native.Mathlib.Omega.{arith}
 use borrow.Author.Rules.{rules}
-use Rattle.rules.specs.Words.{all_of}
 use Rattle.files.specs.Words.{is_zero}
 use Rattle.rules.specs.State.{response_size}
 use Rattle.card.proofs.Passing.{pass-more, pass-end}

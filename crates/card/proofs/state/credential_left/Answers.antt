@@ -1,7 +1,5 @@
 use native.Mathlib.Omega.{arith}
-use borrow.Author.Rules.{rules}
 use borrow.Author.Tests.{le-ltb, lt-ltb}
-use Rattle.card.specs.Coded.{done}
 use Rattle.card.proofs.state.credential_left.Goals as goal
 
 pub returns-then-which-lt-CREDENTIALS : goal.returns-then-which-lt-CREDENTIALS

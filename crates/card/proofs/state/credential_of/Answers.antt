@@ -1,5 +1,4 @@
 use lib.ListN.{length-take}
-use borrow.Author.Rules.{rules}
 use Rattle.card.proofs.state.credential_of.Goals as goal
 
 pub returns : goal.returns

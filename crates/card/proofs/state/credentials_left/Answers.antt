@@ -1,4 +1,3 @@
-use borrow.Author.Rules.{rules}
 use Rattle.card.proofs.state.credentials_left.Goals as goal
 
 pub returns : goal.returns

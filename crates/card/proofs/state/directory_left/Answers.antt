@@ -1,6 +1,5 @@
 use mathlib.Core.Path.{◌∙◌}
 use borrow.Author.Tests.{eq-eqb, ne_eqb}
-use Rattle.card.specs.Coded.{done}
 use Rattle.card.proofs.state.directory_left.Goals as goal
 
 pub returns-then-done-ne0 : goal.returns-then-done-ne0

@@ -1,5 +1,4 @@
 use mathlib.Core.Path.{◌∙◌}
-use borrow.Author.Rules.{rules}
 use Rattle.card.proofs.Filling.{filled-front}
 use Rattle.card.proofs.state.filled.Goals as goal
 

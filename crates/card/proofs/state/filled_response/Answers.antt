@@ -1,7 +1,6 @@
 use mathlib.Core.Path.{◌∙◌}
 use Rattle.rules.specs.State.{response_size}
 use Rattle.card.proofs.Filling.{filled-front}
-use borrow.Author.Rules.{rules}
 use Rattle.card.proofs.state.filled_response.Goals as goal
 
 pub returns : goal.returns

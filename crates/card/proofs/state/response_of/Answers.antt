@@ -1,7 +1,5 @@
-use mathlib.Core.Path.{◌≡◌, sym, ◌∙◌}
-use lib.ListN.{length, take, length-take}
+use lib.ListN.{length-take}
 use Rattle.rules.specs.State.{response_size}
-use borrow.Author.Rules.{rules}
 use Rattle.card.proofs.state.response_of.Goals as goal
 
 pub returns : goal.returns

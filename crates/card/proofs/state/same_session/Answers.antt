@@ -1,4 +1,3 @@
-use Rattle.card.specs.Carried.{carried}
 use Rattle.card.proofs.state.same_session.Goals as goal
 
 pub returns : goal.returns

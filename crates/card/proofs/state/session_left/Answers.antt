@@ -1,4 +1,3 @@
-use borrow.Author.Rules.{rules}
 use lib.Seq.{take_all}
 use Rattle.card.proofs.state.session_left.Goals as goal
 

@@ -1,7 +1,6 @@
 use mathlib.Core.Path.{◌≡◌, refl, sym, ap, ◌∙◌}
 use native.Mathlib.Omega.{arith}
-use borrow.Author.Rules.{rules}
-use lib.ListN.{length, length-map, get_or-eq_default}
+use lib.ListN.{length, get_or-eq_default}
 use Rattle.rules.specs.declared.Credential.{Credential}
 use Rattle.rules.specs.State.{how_many, no_credential}
 use Rattle.card.proofs.state.tries_at.Goals as goal

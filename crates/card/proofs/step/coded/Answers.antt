@@ -1,12 +1,10 @@
 use mathlib.Core.Path.{◌∙◌, ◌≡◌, ap₂, refl, sym}
 use mathlib.Core.List.{[]}
 use native.Mathlib.Omega.{arith}
-use borrow.Author.Rules.{rules}
 use Rattle.files.specs.Directory.{addressed}
 use Rattle.rules.specs.Target.{target}
 use Rattle.rules.specs.Effect.{answers}
 use Rattle.card.specs.Head.{command_of}
-use Rattle.card.specs.Carried.{leaving}
 use Rattle.card.specs.Coded.{sfi_asked}
 use Rattle.card.proofs.Carrying.{carries-keyed, leaves-same, quiet}
 use Rattle.card.proofs.Serving.{key-whole}

@@ -23,7 +23,7 @@ returns-then-not-is_sound c = let a = c.args in
     refused-state a.card a.area.now a.cmd.now a.random.now a.reply.now c.if-reply-lt-REPLY_SIZE.false c.if-area-ne-AREA_SIZE.false c.if-random-ne-RANDOM_SIZE.false (sym c.is_sound.ensures ∙ not-true _ c.if-not-is_sound.true-raw) c.answer-then-not-is_sound.result c.answer-then-not-is_sound.ensures
 
 pub step-requires : goal.step-requires
-step-requires c = record { ready = record { is-sound = sym c.is_sound.ensures ∙ not-false _ c.if-not-is_sound.false-raw; area-size = c.if-area-ne-AREA_SIZE.false };  random_len = (c.if-random-ne-RANDOM_SIZE.false, c.if-reply-lt-REPLY_SIZE.false) }
+step-requires c = record { ready = record { is-sound = sym c.is_sound.ensures ∙ not-false _ c.if-not-is_sound.false-raw; area-size = c.if-area-ne-AREA_SIZE.false }; random_len = (c.if-random-ne-RANDOM_SIZE.false, c.if-reply-lt-REPLY_SIZE.false) }
 
 pub shape_of-area : goal.shape_of-area
 shape_of-area c = c.area-1.given

@@ -1,7 +1,6 @@
 use mathlib.Core.Path.{◌≡◌, refl, subst}
 use mathlib.Core.Bool.{false, true}
 use mathlib.Core.List.{[]}
-use borrow.Author.Rules.{rules}
 use Rattle.files.specs.Directory.{addressed}
 use Rattle.files.proofs.Checks.{clash}
 use Rattle.rules.specs.Words.{first}

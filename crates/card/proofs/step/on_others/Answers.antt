@@ -3,7 +3,6 @@ use mathlib.Core.Bool.{false, true}
 use mathlib.Core.List.{List, []}
 use Prim.Native.Nat.{ℕ}
 use native.Mathlib.Omega.{arith}
-use borrow.Author.Rules.{rules}
 use lib.ListN.{get_or}
 use Rattle.files.proofs.Checks.{clash}
 use Rattle.rules.specs.declared.Credential.{Credential}

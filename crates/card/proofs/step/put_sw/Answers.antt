@@ -2,11 +2,7 @@ use lib.ListN.{length}
 use Rattle.rules.specs.Words.{sw_bytes}
 use borrow.Author.Tests.{le-leb}
 use Rattle.card.proofs.Serving.{stored-all}
-use Prim.Native.Nat.{ℕ, ◌+◌}
-use Rattle.card.specs.Carried.{carried}
-use Rattle.card.specs.Head.{command_of}
-use mathlib.Core.Path.{ap, ap₂, sym, ◌∙◌}
-use borrow.Author.Rules.{rules}
+use Prim.Native.Nat.{◌+◌}
 use Rattle.card.proofs.step.put_sw.Goals as goal
 
 pub shape_of-reply : goal.shape_of-reply

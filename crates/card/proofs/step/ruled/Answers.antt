@@ -2,7 +2,6 @@ use mathlib.Core.Path.{◌∙◌, ◌≡◌, ap, refl, sym}
 use mathlib.Core.Bool.{false}
 use mathlib.Core.List.{List, []}
 use Prim.Native.Nat.{◌+◌, ◌-◌}
-use borrow.Author.Rules.{rules}
 use lib.ListN.{drop, get_or, take}
 use Rattle.rules.specs.declared.Credential.{Credential}
 use Rattle.rules.specs.Words.{byte, or_else}

@@ -2,18 +2,15 @@ use mathlib.Core.Path.{◌∙◌, ◌≡◌, ap, refl, sym}
 use mathlib.Core.List.{List}
 use Prim.Native.Nat.{◌+◌, ℕ}
 use native.Mathlib.Omega.{arith}
-use borrow.Author.Rules.{rules}
 use lib.ListN.{length, take}
 use lib.Seq.{length-take-le}
-use Rattle.files.specs.Types.{size}
 use Rattle.rules.specs.declared.Card.{Card}
 use Rattle.rules.specs.Words.{byte, filled_to}
 use Rattle.rules.specs.State.{mode, response_of, response_size, with_challenge}
 use Rattle.rules.specs.Calls.{answer}
-use Rattle.rules.specs.Step.{at_once, ruled}
+use Rattle.rules.specs.Step.{at_once}
 use Rattle.card.specs.Carried.{leaves, whole}
 use Rattle.card.proofs.Stepping.{carried-out, le-few, served-at-once, served-later, settled-at-once, settled-later, settled-parts, settled_card, step-at-once, step-fetches, step_waits}
-use mathlib.Core.Logic.{⊎_elim}
 use Rattle.rules.specs.Frame.{case_of, le_place}
 use lib.Dec.{eqb}
 use mathlib.Core.Bool.{true}
@@ -70,19 +67,19 @@ returns c = let a = c.args in
     let next = with_challenge (whole a.card r.result) said in
     let out = carried-out a.card a.area.now a.cmd.now a.random.now a.reply.now h.result c.listed-ins.result r.result _ _ w h.ensures c.listed-ins.ensures in
     let f = c.fetches in
-    elim c.if-later.branch
-    [ then-later z ↦
-    let taken : eqb (mode a.card) 1 ≡ true = eq-eqb _ _ z.if-later.true in
-    let size : c.hidden-size.result ≡ 256 = c.hidden-size.ensures.is ∙ rw taken in
-    rw (step_waits a.card a.area.now a.cmd.now a.random.now h.result h.ensures f.result f.ensures c.if-fetches.false taken)
-    (served-later (at_once a.card a.area.now a.cmd.now a.random.now) a.reply.now next r.result.sw r.result.n _ _ out c.requires.random_len.1 c.filled_response-before.result c.answer.result _ _
-    (c.filled_response-before.ensures ∙ ap (λ (n : ℕ). filled_to response_size (take response_size (take n a.reply.now))) size) z.store.ensures.left_is (z.reply-is ∙ z.put_sw.ensures ∙ rw z.wait_sw.ensures)
-    (λ (d : List ℕ). settled_card a.card (leaves a.card r.result) r.result.left (response_of (mode a.card) (take response_size d)) said)
-    (settled-later a.card a.area.now a.cmd.now a.random.now a.reply.now h.result c.listed-ins.result r.result _ _ w)
-    (settled-parts a.card r.result _ _ _ _ _ _ 2 said c.answer.result c.credentials_left-credentials.ensures c.directory_left-directory.ensures c.session_left-session.ensures (z.response-is ∙ z.response_of-kept.ensures) z.size-is c.answer.ensures))
-    | else-later z ↦
-    rw (step-at-once a.card a.area.now a.cmd.now a.random.now h.result h.ensures f.result f.ensures c.if-fetches.false (ne_eqb _ _ z.if-later.false))
-    (served-at-once (at_once a.card a.area.now a.cmd.now a.random.now) a.reply.now next r.result.sw r.result.n _ _ out c.answer.result _ (z.reply-is ∙ z.put_sw-else-later.ensures)
-    (settled-parts a.card r.result _ _ _ _ _ _ (r.result.n + 2) said c.answer.result c.credentials_left-credentials.ensures c.directory_left-directory.ensures c.session_left-session.ensures z.response-is z.size-is c.answer.ensures
-    ∙ ap (λ (x : Card). answer 0 x (r.result.n + 2)) (settled-at-once a.card a.area.now a.cmd.now a.random.now a.reply.now h.result c.listed-ins.result r.result _ _ w)))
+    elim c.if-later.branch [
+      | then-later z ↦
+          let taken : eqb (mode a.card) 1 ≡ true = eq-eqb _ _ z.if-later.true in
+          let size : c.hidden-size.result ≡ 256 = c.hidden-size.ensures.is ∙ rw taken in
+          rw (step_waits a.card a.area.now a.cmd.now a.random.now h.result h.ensures f.result f.ensures c.if-fetches.false taken)
+          (served-later (at_once a.card a.area.now a.cmd.now a.random.now) a.reply.now next r.result.sw r.result.n _ _ out c.requires.random_len.1 c.filled_response-before.result c.answer.result _ _
+          (c.filled_response-before.ensures ∙ ap (λ (n : ℕ). filled_to response_size (take response_size (take n a.reply.now))) size) z.store.ensures.left_is (z.reply-is ∙ z.put_sw.ensures ∙ rw z.wait_sw.ensures)
+          (λ (d : List ℕ). settled_card a.card (leaves a.card r.result) r.result.left (response_of (mode a.card) (take response_size d)) said)
+          (settled-later a.card a.area.now a.cmd.now a.random.now a.reply.now h.result c.listed-ins.result r.result _ _ w)
+          (settled-parts a.card r.result _ _ _ _ _ _ 2 said c.answer.result c.credentials_left-credentials.ensures c.directory_left-directory.ensures c.session_left-session.ensures (z.response-is ∙ z.response_of-kept.ensures) z.size-is c.answer.ensures))
+      | else-later z ↦
+          rw (step-at-once a.card a.area.now a.cmd.now a.random.now h.result h.ensures f.result f.ensures c.if-fetches.false (ne_eqb _ _ z.if-later.false))
+          (served-at-once (at_once a.card a.area.now a.cmd.now a.random.now) a.reply.now next r.result.sw r.result.n _ _ out c.answer.result _ (z.reply-is ∙ z.put_sw-else-later.ensures)
+          (settled-parts a.card r.result _ _ _ _ _ _ (r.result.n + 2) said c.answer.result c.credentials_left-credentials.ensures c.directory_left-directory.ensures c.session_left-session.ensures z.response-is z.size-is c.answer.ensures
+          ∙ ap (λ (x : Card). answer 0 x (r.result.n + 2)) (settled-at-once a.card a.area.now a.cmd.now a.random.now a.reply.now h.result c.listed-ins.result r.result _ _ w)))
     ]

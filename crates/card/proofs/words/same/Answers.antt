@@ -1,7 +1,4 @@
-use Prim.Native.Nat.{◌-◌, ◌≤◌}
-use mathlib.Core.Path.{◌≡◌, sym}
-use lib.ListN.{length, take}
-use Rattle.rules.specs.Words.{same}
+use mathlib.Core.Path.{sym}
 use Rattle.card.proofs.Bytewise.{same_length, same_none, same_next, same-all}
 use borrow.Author.Rules.{rules}
 use Rattle.card.proofs.words.same.Goals as goal

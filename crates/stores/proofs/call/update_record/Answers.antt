@@ -16,14 +16,14 @@ returns-then-sw c = let a = c.args in
 pub overflow_add-at : goal.overflow_add-at
 overflow_add-at c = let s = c in
     let a = s.args in
-    let few = update-inside a.card a.area.now s.requires.0 (command_of a.h a.given.now) (c.record_found-l.ensures ∙ found-given a.card a.area.now a.h a.given.now) (sym c.update_record_sw-sw.ensures ∙ c.if-sw.false) in
+    let few = update-inside a.card a.area.now s.requires.ready (command_of a.h a.given.now) (c.record_found-l.ensures ∙ found-given a.card a.area.now a.h a.given.now) (sym c.update_record_sw-sw.ensures ∙ c.if-sw.false) in
     record { fits = omega (arith, few, c.start.ensures.low) }
 
 pub update_store-requires : goal.update_store-requires
 update_store-requires c = let s = c in
     let a = s.args in
-    let few = update-inside a.card a.area.now s.requires.0 (command_of a.h a.given.now) (c.record_found-l.ensures ∙ found-given a.card a.area.now a.h a.given.now) (sym c.update_record_sw-sw.ensures ∙ c.if-sw.false) in
-    (omega (arith, few, c.start.ensures.low), s.requires.1)
+    let few = update-inside a.card a.area.now s.requires.ready (command_of a.h a.given.now) (c.record_found-l.ensures ∙ found-given a.card a.area.now a.h a.given.now) (sym c.update_record_sw-sw.ensures ∙ c.if-sw.false) in
+    (omega (arith, few, c.start.ensures.low), s.requires.given_len_bound)
 
 pub returns : goal.returns
 returns c = let a = c.args in

@@ -17,32 +17,29 @@ unfolding laid
 loop-k-init c = (omega arith, omega arith, refl, refl)
 
 pub served-s-requires : goal.served-s-requires
-served-s-requires c = c.requires.0
+served-s-requires c = c.requires.ready
 
 pub returns-then-not-s : goal.returns-then-not-s
-returns-then-not-s c = let at-loop = c in
-    let a = at-loop.before.before.before.before.args in
+returns-then-not-s c = let a = c.args in
     let xs = stores_of a.card a.area.now a.cmd.now in
-    let k : ℕ = at-loop.loop.k in
+    let k : ℕ = c.loop-k.k in
     let none : length xs ≤ a.first + k = not_there xs (a.first + k) c.served-s.result c.served-s.ensures (not-true _ c.if-not-s.true) in
-    record { count-is = omega (arith, none, at-loop.loop.invariant.0, at-loop.loop.invariant.1); out-is = at-loop.loop.invariant.3 }
+    record { count-is = omega (arith, none, c.loop-k.invariant.0, c.loop-k.invariant.1); out-is = c.loop-k.invariant.3 }
 
 pub loop-k-preserved : goal.loop-k-preserved
 loop-k-preserved c = let was = c in
-    let at-loop = was in
-    let a = at-loop.before.before.before.before.args in
+    let a = c.args in
     let xs = stores_of a.card a.area.now a.cmd.now in
-    let k : ℕ = at-loop.loop.k in
+    let k : ℕ = c.loop-k.k in
     let one : a.first + k < length xs = there-is xs (a.first + k) was.served-s.result was.served-s.ensures (not-false _ was.if-not-s.false) in
-    let l : length at-loop.loop.out ≡ length a.out.now = at-loop.loop.invariant.2 in
-    let room : 3 * k + 3 ≤ length at-loop.loop.out = omega arith in
-    let more : (length c.store.new.0 ≡ length at-loop.loop.out) × (c.store.new.0 ≡ laid xs a.first (k + 1) a.out.now)
-    = laid_one xs a.first k a.out.now at-loop.loop.out was.served-s.result c.three_bytes-three.result c.store.new.0
-    was.served-s.ensures c.three_bytes-three.ensures at-loop.loop.invariant.3 room c.store.ensures.left_is in
+    let l : length c.loop-k.out ≡ length a.out.now = c.loop-k.invariant.2 in
+    let room : 3 * k + 3 ≤ length c.loop-k.out = omega arith in
+    let more : (length c.store.new.0 ≡ length c.loop-k.out) × (c.store.new.0 ≡ laid xs a.first (k + 1) a.out.now)
+    = laid_one xs a.first k a.out.now c.loop-k.out was.served-s.result c.three_bytes-three.result c.store.new.0
+    was.served-s.ensures c.three_bytes-three.ensures c.loop-k.invariant.3 room c.store.ensures.left_is in
     (omega arith, omega (arith, one), more.0 ∙ l, more.1)
 
 pub returns : goal.returns
-returns c = let at-loop = c in
-    let a = at-loop.before.before.before.before.args in
+returns c = let a = c.args in
     let xs = stores_of a.card a.area.now a.cmd.now in
-    record { count-is = omega arith; out-is = at-loop.loop.invariant.3 }
+    record { count-is = omega arith; out-is = c.loop-k.invariant.3 }

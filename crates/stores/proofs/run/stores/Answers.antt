@@ -10,7 +10,7 @@ returns-then-outcome-ne0 c = let a = c.args in
 
 pub lay-n-requires : goal.lay-n-requires
 lay-n-requires c = let a = c.args in
-    (served-ready a.card a.area.now a.random.now c.refusal-outcome.ensures c.if-outcome-ne0.false, rw c.most-most.ensures (most-fit a.first (length a.out.now)))
+    record { ready = served-ready a.card a.area.now a.random.now c.refusal-outcome.ensures c.if-outcome-ne0.false; most_in_bounds = rw c.most-most.ensures (most-fit a.first (length a.out.now)) }
 
 pub returns : goal.returns
 returns c = let was = c in
