@@ -1,5 +1,5 @@
 -- A run of stores as it is laid down, one after another.
-use Prim.Native.Nat.{ℕ, zero, suc, ◌+◌, ◌-◌, ◌*◌, ◌/◌, ◌%◌, ◌≤◌, ◌<◌, min}
+use Prim.Native.Nat.{ℕ, zero, suc, ◌+◌, ◌*◌, ◌/◌, ◌≤◌, ◌<◌, min}
 use mathlib.Core.Bool.{Bool, cond, true, false, true≢false}
 use mathlib.Core.List.{List, [], ◌∷◌}
 use mathlib.Core.Path.{◌≡◌, refl, sym, ap, ◌∙◌}
@@ -16,7 +16,6 @@ use Rattle.power.specs.declared.Numbered.{Numbered}
 use Rattle.power.specs.Store.{Store}
 use Rattle.power.specs.Plan.{stores_of}
 use Rattle.power.specs.Address.{store_at}
-use Rattle.stores.specs.declared.Counted.{Counted}
 use Rattle.stores.specs.Handing.{refusal}
 use Rattle.stores.specs.Runs.{three_bytes, laid, most, Laid, stores, Hands}
 

@@ -2,7 +2,6 @@ use Prim.Native.Nat.{◌-◌}
 use mathlib.Core.List.{◌++◌}
 use mathlib.Core.Path.{sym, ◌∙◌}
 use borrow.Author.Tests.{not-true, not-false}
-use borrow.Author.Rules.{rules}
 use Rattle.files.specs.Record as records
 use Rattle.power.specs.Store.{entry_byte, area_byte, row}
 use Rattle.power.specs.Journal.{entry, known_bytes, journaled}

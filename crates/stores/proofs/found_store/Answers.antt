@@ -1,5 +1,4 @@
 use mathlib.Core.Path.{◌∙◌}
-use borrow.Author.Rules.{rules}
 use Rattle.stores.proofs.Changes.{found-bytes, found-count}
 use Rattle.stores.proofs.found_store.Goals as goal
 

@@ -1,5 +1,4 @@
 use mathlib.Core.Path.{◌∙◌}
-use borrow.Author.Rules.{rules}
 use Rattle.stores.proofs.is_full.Goals as goal
 
 pub returns : goal.returns

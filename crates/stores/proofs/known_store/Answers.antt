@@ -1,5 +1,4 @@
 use mathlib.Core.Path.{◌∙◌}
-use borrow.Author.Rules.{rules}
 use Rattle.stores.proofs.Changes.{store-known}
 use Rattle.stores.proofs.known_store.Goals as goal
 

@@ -1,5 +1,4 @@
 use mathlib.Core.Path.{◌∙◌}
-use borrow.Author.Rules.{rules}
 use Rattle.stores.proofs.Changes.{make-bytes, make-entry, make-count}
 use Rattle.stores.proofs.make_store.Goals as goal
 

@@ -1,6 +1,5 @@
 use mathlib.Core.Path.{◌∙◌}
 use borrow.Author.Tests.{eq-eqb, ne_eqb}
-use borrow.Author.Rules.{rules}
 use Rattle.stores.proofs.only.Goals as goal
 
 pub returns-then-k-eq0 : goal.returns-then-k-eq0

@@ -1,6 +1,5 @@
 use mathlib.Core.Path.{◌∙◌}
 use native.Mathlib.Omega.{arith}
-use borrow.Author.Rules.{rules}
 use Rattle.power.specs.Journal.{entry, known_bytes, journaled}
 use Rattle.stores.proofs.Changes.{record-bytes, record-next}
 use Rattle.stores.proofs.record_store.Goals as goal

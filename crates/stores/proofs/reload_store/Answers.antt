@@ -1,5 +1,4 @@
 use mathlib.Core.Path.{◌∙◌}
-use borrow.Author.Rules.{rules}
 use Rattle.stores.proofs.Changes.{reload-value, reload-tries}
 use Rattle.stores.proofs.reload_store.Goals as goal
 

@@ -1,6 +1,5 @@
 use mathlib.Core.Path.{◌∙◌}
 use borrow.Author.Tests.{not-true, not-false}
-use borrow.Author.Rules.{rules}
 use Rattle.power.specs.Store.{tries_left}
 use Rattle.stores.proofs.Changes.{not-restored, restored}
 use Rattle.stores.proofs.restored_store.Goals as goal

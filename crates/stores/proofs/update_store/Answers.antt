@@ -1,5 +1,4 @@
 use mathlib.Core.Path.{◌∙◌}
-use borrow.Author.Rules.{rules}
 use Rattle.power.specs.Store.{area_byte}
 use Rattle.stores.proofs.Numbers.{store-row, row-none}
 use Rattle.stores.proofs.update_store.Goals as goal

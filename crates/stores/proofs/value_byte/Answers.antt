@@ -1,4 +1,3 @@
-use borrow.Author.Rules.{rules}
 use Rattle.stores.proofs.Changes.{byte-given, byte-length, byte-zero}
 use Rattle.stores.proofs.value_byte.Goals as goal
 

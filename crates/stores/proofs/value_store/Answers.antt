@@ -1,5 +1,4 @@
 use mathlib.Core.Path.{◌∙◌}
-use borrow.Author.Rules.{rules}
 use Rattle.stores.proofs.Changes.{store-value}
 use Rattle.stores.proofs.value_store.Goals as goal
 

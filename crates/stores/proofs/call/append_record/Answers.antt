@@ -1,7 +1,6 @@
 use Prim.Native.Nat.{ℕ, ◌-◌}
 use mathlib.Core.Path.{◌≡◌, sym, ap, ◌∙◌}
 use native.Mathlib.Omega.{arith}
-use borrow.Author.Rules.{rules}
 use Rattle.rules.specs.Record.{append_deed}
 use Rattle.card.specs.Head.{command_of}
 use Rattle.power.specs.Plan.{deed_stores}

@@ -1,4 +1,3 @@
-use borrow.Author.Rules.{rules}
 use Rattle.stores.proofs.call.cryptogram.Goals as goal
 
 pub returns : goal.returns

@@ -1,6 +1,5 @@
 use mathlib.Core.Path.{◌∙◌}
 use native.Mathlib.Omega.{arith}
-use borrow.Author.Rules.{rules}
 use Rattle.rules.specs.Binary.{update_binary_deed}
 use Rattle.card.specs.Head.{command_of}
 use Rattle.power.specs.Plan.{deed_stores}

@@ -1,13 +1,9 @@
-use Prim.Native.Nat.{ℕ, ◌+◌, ◌-◌, ◌*◌, ◌/◌, ◌≤◌, ◌<◌}
-use mathlib.Core.Path.{◌≡◌, refl, sym, ap, ◌∙◌}
-use mathlib.Core.Bool.{true, false}
+use Prim.Native.Nat.{ℕ, ◌+◌, ◌*◌, ◌≤◌, ◌<◌}
+use mathlib.Core.Path.{◌≡◌, refl, ◌∙◌}
 use lib.ListN.{length}
-use borrow.Author.Rules.{rules}
 use borrow.Author.Tests.{not-true, not-false}
 use native.Mathlib.Omega.{arith}
-use Rattle.power.specs.declared.Numbered.{Numbered}
 use Rattle.power.specs.Plan.{stores_of}
-use Rattle.power.specs.Address.{store_at}
 use Rattle.stores.specs.Runs.{laid}
 use Rattle.stores.proofs.Laying.{there-is, not_there, laid_one}
 use Rattle.stores.proofs.run.lay.Goals as goal
@@ -34,8 +30,8 @@ loop-k-preserved c = let was = c in
     let one : a.first + k < length xs = there-is xs (a.first + k) was.served-s.result was.served-s.ensures (not-false _ was.if-not-s.false) in
     let l : length c.loop-k.out ≡ length a.out.now = c.loop-k.invariant.2 in
     let room : 3 * k + 3 ≤ length c.loop-k.out = omega arith in
-    let more : (length c.store.new.0 ≡ length c.loop-k.out) × (c.store.new.0 ≡ laid xs a.first (k + 1) a.out.now)
-    = laid_one xs a.first k a.out.now c.loop-k.out was.served-s.result c.three_bytes-three.result c.store.new.0
+    let more : (length c.store.new.xs ≡ length c.loop-k.out) × (c.store.new.xs ≡ laid xs a.first (k + 1) a.out.now)
+    = laid_one xs a.first k a.out.now c.loop-k.out was.served-s.result c.three_bytes-three.result c.store.new.xs
     was.served-s.ensures c.three_bytes-three.ensures c.loop-k.invariant.3 room c.store.ensures.left_is in
     (omega arith, omega (arith, one), more.0 ∙ l, more.1)
 

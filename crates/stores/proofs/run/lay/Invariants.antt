@@ -1,15 +1,8 @@
-use Prim.Native.Nat.{ℕ, ◌+◌, ◌-◌, ◌*◌, ◌/◌, ◌≤◌, ◌<◌}
-use mathlib.Core.Path.{◌≡◌, refl, sym, ap, ◌∙◌}
-use mathlib.Core.Bool.{true, false}
+use Prim.Native.Nat.{◌-◌, ◌≤◌}
+use mathlib.Core.Path.{◌≡◌}
 use lib.ListN.{length}
-use borrow.Author.Rules.{rules}
-use borrow.Author.Tests.{not-true, not-false}
-use native.Mathlib.Omega.{arith}
-use Rattle.power.specs.declared.Numbered.{Numbered}
 use Rattle.power.specs.Plan.{stores_of}
-use Rattle.power.specs.Address.{store_at}
 use Rattle.stores.specs.Runs.{laid}
-use Rattle.stores.proofs.Laying.{there-is, not_there, laid_one}
 use Rattle.stores.proofs.run.lay.Given as goal
 
 abbrev pub invariant-loop-k : goal.invariant-loop-k

@@ -1,5 +1,4 @@
 use lib.ListN.{length}
-use borrow.Author.Rules.{rules}
 use Rattle.stores.proofs.Calling.{served-ready}
 use Rattle.stores.proofs.Laying.{most-fit, refused-run, served-run}
 use Rattle.stores.proofs.run.stores.Goals as goal
