@@ -1,5 +1,4 @@
 use Rattle.lines.proofs.Scanning.{after-some, after_none}
-use borrow.Author.Rules.{rules}
 use Rattle.lines.proofs.fields.after.Goals as goal
 
 pub returns-then-at-s : goal.returns-then-at-s

@@ -1,11 +1,7 @@
 use mathlib.Core.Path.{sym, ◌∙◌}
-use Prim.Native.Nat.{◌-◌}
-use lib.ListN.{length}
 use native.Mathlib.Omega.{arith}
 use borrow.Author.Tests.{not-false}
-use Rattle.lines.specs.Grammar.{Past}
 use Rattle.lines.proofs.Scanning.{past-none, block-passed}
-use borrow.Author.Rules.{rules}
 use Rattle.lines.proofs.fields.blocks_past.Goals as goal
 
 pub loop-i-init : goal.loop-i-init

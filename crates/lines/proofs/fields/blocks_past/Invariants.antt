@@ -1,11 +1,6 @@
-use mathlib.Core.Path.{sym, ◌∙◌}
 use Prim.Native.Nat.{◌-◌}
 use lib.ListN.{length}
-use native.Mathlib.Omega.{arith}
-use borrow.Author.Tests.{not-false}
 use Rattle.lines.specs.Grammar.{Past}
-use Rattle.lines.proofs.Scanning.{past-none, block-passed}
-use borrow.Author.Rules.{rules}
 use Rattle.lines.proofs.fields.blocks_past.Given as goal
 
 abbrev pub invariant-loop-i : goal.invariant-loop-i

@@ -1,8 +1,7 @@
 use Prim.Native.Nat.{◌-◌}
-use mathlib.Core.Path.{◌≡◌, refl, ap, ◌∙◌}
+use mathlib.Core.Path.{refl, ap, ◌∙◌}
 use Rattle.lines.specs.Grammar.{field}
 use Rattle.lines.proofs.Scanning.{field-here, field_past}
-use borrow.Author.Rules.{rules}
 use Rattle.lines.proofs.fields.field.Goals as goal
 
 pub loop-left-init : goal.loop-left-init
@@ -13,4 +12,4 @@ loop-left-preserved c = let l = c.loop-left in
     ap (field (l.left - 1)) c.after-next.ensures ∙ field_past l.left _ c.loop-left-test.true ∙ l.invariant
 
 pub returns : goal.returns
-returns c = let l = c.loop-left in c2.ensures ∙ field-here l.left _ c.loop-left-test.false ∙ l.invariant
+returns c = let l = c.loop-left in c.before-2.ensures ∙ field-here l.left _ c.loop-left-test.false ∙ l.invariant

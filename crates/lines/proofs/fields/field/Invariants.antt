@@ -1,8 +1,5 @@
-use Prim.Native.Nat.{◌-◌}
-use mathlib.Core.Path.{◌≡◌, refl, ap, ◌∙◌}
+use mathlib.Core.Path.{◌≡◌}
 use Rattle.lines.specs.Grammar.{field}
-use Rattle.lines.proofs.Scanning.{field-here, field_past}
-use borrow.Author.Rules.{rules}
 use Rattle.lines.proofs.fields.field.Given as goal
 
 abbrev pub invariant-loop-left : goal.invariant-loop-left

@@ -1,8 +1,4 @@
-use lib.ListN.{length}
-use Prim.Native.Nat.{◌-◌}
-use Rattle.lines.specs.Grammar.{Past}
 use Rattle.lines.proofs.Scanning.{first_found, first-passed, first-none}
-use borrow.Author.Rules.{rules}
 use Rattle.lines.proofs.fields.first_at.Goals as goal
 
 pub loop-i-init : goal.loop-i-init

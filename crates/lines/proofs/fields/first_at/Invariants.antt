@@ -1,8 +1,6 @@
 use lib.ListN.{length}
 use Prim.Native.Nat.{◌-◌}
 use Rattle.lines.specs.Grammar.{Past}
-use Rattle.lines.proofs.Scanning.{first_found, first-passed, first-none}
-use borrow.Author.Rules.{rules}
 use Rattle.lines.proofs.fields.first_at.Given as goal
 
 abbrev pub invariant-loop-i : goal.invariant-loop-i

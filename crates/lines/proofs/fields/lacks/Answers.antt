@@ -1,9 +1,7 @@
-use mathlib.Core.Path.{◌≡◌, refl, sym, ◌∙◌}
-use lib.ListN.{length, drop}
+use mathlib.Core.Path.{refl, sym, ◌∙◌}
 use lib.Dec.{eqb}
-use Prim.Native.Nat.{ℕ, ◌-◌, ◌≤◌}
-use mathlib.Core.Bool.{◌&&◌, not}
-use Rattle.lines.specs.Grammar.{lacks}
+use Prim.Native.Nat.{ℕ}
+use mathlib.Core.Bool.{not}
 use Rattle.card.proofs.Passing.{pass-more, pass-end}
 use borrow.Author.Rules.{rules}
 use Rattle.lines.proofs.fields.lacks.Goals as goal

@@ -1,11 +1,8 @@
-use mathlib.Core.Path.{◌≡◌, refl, sym, ◌∙◌}
+use mathlib.Core.Path.{◌≡◌}
 use lib.ListN.{length, drop}
-use lib.Dec.{eqb}
-use Prim.Native.Nat.{ℕ, ◌-◌, ◌≤◌}
-use mathlib.Core.Bool.{◌&&◌, not}
+use Prim.Native.Nat.{◌-◌, ◌≤◌}
+use mathlib.Core.Bool.{◌&&◌}
 use Rattle.lines.specs.Grammar.{lacks}
-use Rattle.card.proofs.Passing.{pass-more, pass-end}
-use borrow.Author.Rules.{rules}
 use Rattle.lines.proofs.fields.lacks.Given as goal
 
 abbrev pub invariant-loop-i : goal.invariant-loop-i

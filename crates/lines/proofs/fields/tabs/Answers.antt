@@ -1,8 +1,4 @@
-use mathlib.Core.Path.{◌≡◌}
-use lib.ListN.{length, drop}
-use Prim.Native.Nat.{◌+◌, ◌-◌, ◌≤◌}
 use native.Mathlib.Nat.{add-zero}
-use Rattle.lines.specs.Grammar.{tabs}
 use Rattle.lines.proofs.Scanning.{tabs-more, tabs-end}
 use borrow.Author.Rules.{rules}
 use native.Mathlib.Omega.{arith}

@@ -1,8 +1,4 @@
-use mathlib.Core.Path.{◌≡◌, refl, sym, ◌∙◌}
-use lib.ListN.{length, drop}
-use Prim.Native.Nat.{◌-◌, ◌≤◌}
-use mathlib.Core.Bool.{◌&&◌}
-use Rattle.rules.specs.Words.{all_of}
+use mathlib.Core.Path.{refl, sym, ◌∙◌}
 use Rattle.lines.specs.Grammar.{digit_to}
 use Rattle.card.proofs.Passing.{pass-more, pass-end}
 use borrow.Author.Rules.{rules}

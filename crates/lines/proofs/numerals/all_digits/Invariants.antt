@@ -1,11 +1,9 @@
-use mathlib.Core.Path.{◌≡◌, refl, sym, ◌∙◌}
+use mathlib.Core.Path.{◌≡◌}
 use lib.ListN.{length, drop}
 use Prim.Native.Nat.{◌-◌, ◌≤◌}
 use mathlib.Core.Bool.{◌&&◌}
 use Rattle.rules.specs.Words.{all_of}
 use Rattle.lines.specs.Grammar.{digit_to}
-use Rattle.card.proofs.Passing.{pass-more, pass-end}
-use borrow.Author.Rules.{rules}
 use Rattle.lines.proofs.numerals.all_digits.Given as goal
 
 abbrev pub invariant-loop-i : goal.invariant-loop-i

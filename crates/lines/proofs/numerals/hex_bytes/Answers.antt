@@ -1,7 +1,4 @@
-use lib.ListN.{length}
-use Prim.Native.Nat.{◌+◌, ◌-◌}
-use Rattle.lines.proofs.Scanning.{Filled, filled_none, filled_more, filled-end}
-use borrow.Author.Rules.{rules}
+use Rattle.lines.proofs.Scanning.{filled_none, filled_more, filled-end}
 use native.Mathlib.Omega.{arith}
 use Rattle.lines.proofs.numerals.hex_bytes.Goals as goal
 

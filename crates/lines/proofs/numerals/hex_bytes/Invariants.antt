@@ -1,8 +1,6 @@
 use lib.ListN.{length}
 use Prim.Native.Nat.{◌+◌, ◌-◌}
-use Rattle.lines.proofs.Scanning.{Filled, filled_none, filled_more, filled-end}
-use borrow.Author.Rules.{rules}
-use native.Mathlib.Omega.{arith}
+use Rattle.lines.proofs.Scanning.{Filled}
 use Rattle.lines.proofs.numerals.hex_bytes.Given as goal
 
 abbrev pub invariant-loop-i : goal.invariant-loop-i

@@ -1,7 +1,5 @@
-use mathlib.Core.Path.{◌≡◌, refl}
-use lib.ListN.{length, drop}
-use Prim.Native.Nat.{◌+◌, ◌-◌, ◌*◌, ◌≤◌}
-use Rattle.lines.specs.Grammar.{number_from, number_of}
+use mathlib.Core.Path.{refl}
+use Prim.Native.Nat.{◌+◌, ◌*◌}
 use Rattle.lines.proofs.Scanning.{number-high, number-on, number-end}
 use borrow.Author.Rules.{rules}
 use native.Mathlib.Omega.{arith}

@@ -1,10 +1,7 @@
-use mathlib.Core.Path.{◌≡◌, refl}
+use mathlib.Core.Path.{◌≡◌}
 use lib.ListN.{length, drop}
-use Prim.Native.Nat.{◌+◌, ◌-◌, ◌*◌, ◌≤◌}
+use Prim.Native.Nat.{◌-◌, ◌≤◌}
 use Rattle.lines.specs.Grammar.{number_from, number_of}
-use Rattle.lines.proofs.Scanning.{number-high, number-on, number-end}
-use borrow.Author.Rules.{rules}
-use native.Mathlib.Omega.{arith}
 use Rattle.lines.proofs.numerals.number_of.Given as goal
 
 abbrev pub invariant-loop-i : goal.invariant-loop-i

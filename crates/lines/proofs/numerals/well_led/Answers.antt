@@ -1,5 +1,4 @@
 use Rattle.lines.proofs.Scanning.{led-none}
-use borrow.Author.Rules.{rules}
 use Rattle.lines.proofs.numerals.well_led.Goals as goal
 
 pub returns-then-s-eq0 : goal.returns-then-s-eq0

@@ -13,7 +13,7 @@ pub slice_bounds-first-end : goal.slice_bounds-first-end
 slice_bounds-first-end c = sym (length-take-le _ _ (search rules))
 
 pub is_command-requires : goal.is_command-requires
-is_command-requires c = let a = c.args in (c.after.ensures, first-is a.line.now _ c.after.ensures _ _ c.tab-at.ensures.is c.fewer.ensures, second_is a.line.now _ c.after.ensures _ _ c.tab-at.ensures.is c.fewer.ensures)
+is_command-requires c = let a = c.args in (c.after-rest.ensures, first-is a.line.now _ c.after-rest.ensures _ _ c.tab_at-at.ensures.is c.fewer-from.ensures, second_is a.line.now _ c.after-rest.ensures _ _ c.tab_at-at.ensures.is c.fewer-from.ensures)
 
 pub command_line-requires : goal.command_line-requires
 command_line-requires c = let a = c.args in
@@ -29,7 +29,7 @@ returns-then-both c = let a = c.args in
 pub other_line-requires : goal.other_line-requires
 other_line-requires c = let a = c.args in
     let e : c.both-2.result ≡ sends a.given a.line.now = rw c.is_command.ensures at c.both-2.ensures in
-    (sym e ∙ c.if-both.false, out-room a.given a.area.now a.line.now a.number a.out.now c.both.result c.both.ensures (not-false _ c.if1.false))
+    (sym e ∙ c.if-both.false, out-room a.given a.area.now a.line.now a.number a.out.now c.both.result c.both.ensures (not-false _ c.if-not-both.false-raw))
 
 pub returns : goal.returns
-returns c = let a = c.args in is-answered a.given a.area.now a.line.now a.number a.out.now c.both.result c.both.ensures (answered a.given a.area.now a.line.now) _ _ _ (not-false _ c.if1.false) refl c.other_line.ensures
+returns c = let a = c.args in is-answered a.given a.area.now a.line.now a.number a.out.now c.both.result c.both.ensures (answered a.given a.area.now a.line.now) _ _ _ (not-false _ c.if-not-both.false-raw) refl c.other_line.ensures

@@ -2,7 +2,6 @@ use mathlib.Core.Bool.{◌&&◌}
 use mathlib.Core.Path.{◌≡◌, sym, ◌∙◌}
 use Rattle.lines.specs.Grammar.{is_reset}
 use Rattle.lines.proofs.Telling.{too_long, on-issue, on-reset, on_none}
-use borrow.Author.Rules.{rules}
 use Rattle.lines.proofs.script.handled.Goals as goal
 
 pub returns-then-line-gt-LINE_SIZE : goal.returns-then-line-gt-LINE_SIZE
@@ -16,8 +15,8 @@ returns-then-is_issue c = let a = c.args in on-issue a.given a.area.now a.line.n
 
 pub returns-then-both : goal.returns-then-both
 returns-then-both c = let s = c in
-    let e : c.both.result ≡ (s.args.given.issued && is_reset s.args.line.now) = rw c.is-reset.ensures at c.both.ensures in
-    on-reset s.args.given s.args.area.now s.args.line.now _ c.if1.false (sym c.is-issue.ensures ∙ c.if2.false) s.requires _ e c.if3.true c.reset_line.ensures
+    let e : c.both.result ≡ (s.args.given.issued && is_reset s.args.line.now) = rw c.is_reset.ensures at c.both.ensures in
+    on-reset s.args.given s.args.area.now s.args.line.now _ c.if-line-gt-LINE_SIZE.false (sym c.is_issue.ensures ∙ c.if-is_issue.false) s.requires _ e c.if-both.true c.reset_line.ensures
 
 pub returns : goal.returns
 returns c = let s = c in

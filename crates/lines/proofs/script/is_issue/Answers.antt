@@ -1,7 +1,6 @@
 use mathlib.Core.Path.{◌≡◌, sym, ◌∙◌}
 use mathlib.Core.Bool.{true, false}
 use borrow.Author.Tests.{not-true, not-false}
-use borrow.Author.Rules.{rules}
 use Rattle.lines.specs.Grammar.{issue_word, record_of, is_issue}
 use Rattle.lines.proofs.script.is_issue.Goals as goal
 

@@ -1,5 +1,4 @@
 use Rattle.lines.specs.Grammar.{is_reset}
-use borrow.Author.Rules.{rules}
 use Rattle.lines.proofs.script.is_reset.Goals as goal
 
 pub returns : goal.returns

@@ -1,7 +1,6 @@
 use native.Mathlib.Omega.{arith}
 use Rattle.lines.specs.Script.{answered}
 use Rattle.lines.proofs.Telling.{quiet-written}
-use borrow.Author.Rules.{rules}
 use Rattle.lines.proofs.script.other_line.Goals as goal
 
 pub handled-told-requires : goal.handled-told-requires

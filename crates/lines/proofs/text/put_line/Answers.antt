@@ -1,5 +1,4 @@
 use Rattle.lines.proofs.Printing.{line-drawn}
-use borrow.Author.Rules.{rules}
 use Rattle.lines.proofs.text.put_line.Goals as goal
 
 pub returns : goal.returns
