@@ -18,7 +18,7 @@ use Rattle.files.specs.Words.{seek, is_zero, two}
 use Rattle.files.specs.Part.{part, over, zeros}
 use Rattle.files.specs.State.{blank_file, blank_folder}
 use Rattle.files.specs.Types.{size}
-use Rattle.files.specs.Directory.{most_files, fid, sfi, good_sfi, used, file_at, start_at, file, start, extent, end, of_fid, of_sfi, here, find_fid, folder_fid, folder_at, folder, folder_here, find_folder}
+use Rattle.files.specs.Directory.{most_files, fid, sfi, good_sfi, used, file_at, start_at, file, start, extent, end, of_fid, of_sfi, here, find_fid, folder_fid, folder_at, folder_here, find_folder}
 use Rattle.files.specs.Create.{area_size, good_folder, housed, apart}
 use Rattle.files.specs.Sound.{sound_file, alone, sound_folder}
 use Rattle.files.proofs.Blank.{unused-blank, unused-folder}
@@ -35,11 +35,11 @@ use Rattle.rules.specs.declared.Response.{Response}
 use Rattle.rules.specs.declared.Card.{Card}
 use Rattle.rules.specs.Calls.{answer}
 use Rattle.rules.specs.Words.{byte, all_of, same}
-use Rattle.rules.specs.State.{Which, device, admin, user, transport, whiches, number_of, no_credential, credential, value_of, challenge, response_size, wait_count, with_journal}
+use Rattle.rules.specs.State.{Which, device, admin, user, transport, whiches, number_of, no_credential, credential, value_of, response_size, wait_count, with_journal}
 use Rattle.rules.specs.Sound.{good_value, sound_value, good_challenge, sound_challenge, sound_response, sound}
 use Rattle.rules.proofs.Good.{Good, Lies, Tried, numbered, sound-good, sound-parted, sound-both, said-short, responded}
 use Rattle.rules.proofs.Equal.{same-equal, equal-same}
-use Rattle.texts.specs.Text.{Form, credential_line, credential_lines, current_fid, fid_bytes, folder_bytes, home_fid, tail, session_line, folder_lines, folder_count, files_text, text, of_form}
+use Rattle.texts.specs.Text.{Form, credential_line, credential_lines, current_fid, fid_bytes, folder_bytes, home_fid, session_line, folder_lines, folder_count, files_text, text, of_form}
 use Rattle.texts.specs.Reading.{skips, hex_in, home_in, current_in, credential_in, session_in, response_in, bytes_in, folders_in, most_folders_of, foldered, with_files, session_part, folders_part, folders_read, files_part, directory_in, card_in, area_in, laid}
 use Rattle.texts.specs.Calls.{to_text, wrote, Got, from_text, got, accepted, kept}
 use Rattle.texts.specs.Laws.{Bytes, FileBytes, FolderBytes, SoundCard, WrittenRead, ReadWritten}

@@ -4,7 +4,6 @@ use Rattle.rules.specs.declared.Card.{Card}
 use Rattle.rules.specs.Calls.{answer}
 use Rattle.texts.specs.Text.{new}
 use Rattle.texts.proofs.Loading.{read-area, read-unsound, read-other, read-good}
-use borrow.Author.Rules.{rules}
 use Rattle.texts.proofs.calls.from_text.Goals as goal
 
 pub returns-then-area-ne-AREA_SIZE : goal.returns-then-area-ne-AREA_SIZE

@@ -1,7 +1,6 @@
 use mathlib.Core.Path.{refl, ap, ◌∙◌}
 use Rattle.texts.specs.Reading.{credential_in, session_in, response_in}
 use Rattle.texts.proofs.Loading.{card-loaded}
-use borrow.Author.Rules.{rules}
 use Rattle.texts.proofs.load.card_in.Goals as goal
 
 pub directory_in-directory-requires : goal.directory_in-directory-requires

@@ -1,6 +1,4 @@
-use Prim.Native.Nat.{◌-◌}
-use lib.ListN.{drop}
-use Rattle.texts.proofs.Scanning.{ContentsInv, contents-start, row_inside, contents-goes, contents-ends}
+use Rattle.texts.proofs.Scanning.{contents-start, row_inside, contents-goes, contents-ends}
 use native.Mathlib.Omega.{arith}
 use Rattle.texts.proofs.load.contents_in.Goals as goal
 

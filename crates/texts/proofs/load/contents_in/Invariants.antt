@@ -1,7 +1,6 @@
 use Prim.Native.Nat.{◌-◌}
 use lib.ListN.{drop}
-use Rattle.texts.proofs.Scanning.{ContentsInv, contents-start, row_inside, contents-goes, contents-ends}
-use native.Mathlib.Omega.{arith}
+use Rattle.texts.proofs.Scanning.{ContentsInv}
 use Rattle.texts.proofs.load.contents_in.Given as goal
 
 abbrev pub invariant-loop-i : goal.invariant-loop-i

@@ -1,7 +1,6 @@
 use Rattle.texts.specs.Reading.{hex_in}
 use Rattle.texts.proofs.Loading.{current-none, current-some, byte_of}
 use native.Mathlib.Omega.{arith}
-use borrow.Author.Rules.{rules}
 use Rattle.texts.proofs.load.current_in.Goals as goal
 
 pub returns-then-n-eq0 : goal.returns-then-n-eq0

@@ -3,7 +3,6 @@ use lib.ListN.{replicate}
 use Rattle.texts.specs.Reading.{skips, hex_in, number, small, Fills}
 use Rattle.texts.proofs.Loading.{file-is}
 use native.Mathlib.Omega.{arith}
-use borrow.Author.Rules.{rules}
 use Rattle.texts.proofs.load.file_in.Goals as goal
 
 pub overflow_cast-n : goal.overflow_cast-n

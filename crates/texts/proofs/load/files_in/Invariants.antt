@@ -1,7 +1,5 @@
 use Prim.Native.Nat.{◌-◌}
-use borrow.Author.Tests.{not-true, not-false}
-use Rattle.texts.proofs.Scanning.{FilesInv, files-begin, files-over, file-inside, files-goes, files-full}
-use native.Mathlib.Omega.{arith}
+use Rattle.texts.proofs.Scanning.{FilesInv}
 use Rattle.texts.proofs.load.files_in.Given as goal
 
 abbrev pub invariant-loop-i : goal.invariant-loop-i

@@ -1,5 +1,4 @@
 use Rattle.texts.proofs.Loading.{folder-is}
-use borrow.Author.Rules.{rules}
 use Rattle.texts.proofs.load.folder_in.Goals as goal
 
 pub returns : goal.returns

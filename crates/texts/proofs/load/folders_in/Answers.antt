@@ -1,8 +1,8 @@
-use Prim.Native.Nat.{ℕ, ◌-◌}
+use Prim.Native.Nat.{ℕ}
 use mathlib.Core.Path.{ap, ◌∙◌}
 use borrow.Author.Tests.{not-true, not-false}
 use Rattle.texts.specs.Reading.{folders_in, foldered}
-use Rattle.texts.proofs.Scanning.{FoldersInv, folders-begin, folders-over, folders-goes, folders-full}
+use Rattle.texts.proofs.Scanning.{folders-begin, folders-over, folders-goes, folders-full}
 use native.Mathlib.Omega.{arith}
 use Rattle.texts.proofs.load.folders_in.Goals as goal
 

@@ -1,9 +1,5 @@
-use Prim.Native.Nat.{ℕ, ◌-◌}
-use mathlib.Core.Path.{ap, ◌∙◌}
-use borrow.Author.Tests.{not-true, not-false}
-use Rattle.texts.specs.Reading.{folders_in, foldered}
-use Rattle.texts.proofs.Scanning.{FoldersInv, folders-begin, folders-over, folders-goes, folders-full}
-use native.Mathlib.Omega.{arith}
+use Prim.Native.Nat.{◌-◌}
+use Rattle.texts.proofs.Scanning.{FoldersInv}
 use Rattle.texts.proofs.load.folders_in.Given as goal
 
 abbrev pub invariant-loop-i : goal.invariant-loop-i

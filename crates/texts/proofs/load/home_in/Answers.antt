@@ -1,6 +1,5 @@
 use Rattle.texts.proofs.Loading.{home-is}
 use native.Mathlib.Omega.{arith}
-use borrow.Author.Rules.{rules}
 use Rattle.texts.proofs.load.home_in.Goals as goal
 
 pub overflow_cast-two : goal.overflow_cast-two

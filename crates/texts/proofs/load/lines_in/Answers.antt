@@ -1,7 +1,6 @@
 use mathlib.Core.Path.{◌∙◌}
 use Rattle.texts.proofs.Scanning.{reaches_then}
 use native.Mathlib.Omega.{arith}
-use borrow.Author.Rules.{rules}
 use Rattle.texts.proofs.load.lines_in.Goals as goal
 
 pub skips-at-requires : goal.skips-at-requires

@@ -3,7 +3,6 @@ use Rattle.texts.specs.Reading.{small}
 use Rattle.rules.specs.State.{response_size}
 use Rattle.texts.proofs.Loading.{hex-part, response-is}
 use native.Mathlib.Omega.{arith}
-use borrow.Author.Rules.{rules}
 use Rattle.texts.proofs.load.response_in.Goals as goal
 
 pub slice_bounds-waiting-end : goal.slice_bounds-waiting-end

@@ -2,7 +2,6 @@ use mathlib.Core.Path.{refl, ap, ◌∙◌}
 use Rattle.texts.specs.Reading.{home_in}
 use Rattle.texts.proofs.Loading.{session-is}
 use native.Mathlib.Omega.{arith}
-use borrow.Author.Rules.{rules}
 use Rattle.texts.proofs.load.session_in.Goals as goal
 
 pub overflow_cast-result : goal.overflow_cast-result

@@ -1,5 +1,4 @@
 use Rattle.texts.proofs.Scanning.{from_is}
-use borrow.Author.Rules.{rules}
 use Rattle.texts.proofs.scan.from.Goals as goal
 
 pub returns : goal.returns

@@ -1,7 +1,5 @@
-use Prim.Native.Nat.{◌-◌}
 use mathlib.Core.Path.{◌∙◌}
-use lib.ListN.{length}
-use Rattle.texts.proofs.Scanning.{HexInv, hex-start, hex-stops, hex-goes, hex-ends}
+use Rattle.texts.proofs.Scanning.{hex-start, hex-stops, hex-goes, hex-ends}
 use native.Mathlib.Omega.{arith}
 use Rattle.texts.proofs.scan.hex_in.Goals as goal
 

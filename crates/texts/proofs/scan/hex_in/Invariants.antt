@@ -1,8 +1,6 @@
 use Prim.Native.Nat.{◌-◌}
-use mathlib.Core.Path.{◌∙◌}
 use lib.ListN.{length}
-use Rattle.texts.proofs.Scanning.{HexInv, hex-start, hex-stops, hex-goes, hex-ends}
-use native.Mathlib.Omega.{arith}
+use Rattle.texts.proofs.Scanning.{HexInv}
 use Rattle.texts.proofs.scan.hex_in.Given as goal
 
 abbrev pub invariant-loop-i : goal.invariant-loop-i

@@ -1,10 +1,5 @@
-use Prim.Native.Nat.{◌-◌, ◌≤◌, ◌<◌}
-use mathlib.Core.Path.{◌≡◌}
-use lib.ListN.{length, drop}
-use Rattle.texts.specs.Reading.{number_from, number}
 use Rattle.texts.proofs.Scanning.{number-start, number-goes, number-stops, number-ends}
 use native.Mathlib.Omega.{arith}
-use borrow.Author.Rules.{rules}
 use Rattle.texts.proofs.scan.number_in.Goals as goal
 
 pub loop-i-init : goal.loop-i-init

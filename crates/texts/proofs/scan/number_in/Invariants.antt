@@ -2,9 +2,6 @@ use Prim.Native.Nat.{◌-◌, ◌≤◌, ◌<◌}
 use mathlib.Core.Path.{◌≡◌}
 use lib.ListN.{length, drop}
 use Rattle.texts.specs.Reading.{number_from, number}
-use Rattle.texts.proofs.Scanning.{number-start, number-goes, number-stops, number-ends}
-use native.Mathlib.Omega.{arith}
-use borrow.Author.Rules.{rules}
 use Rattle.texts.proofs.scan.number_in.Given as goal
 
 abbrev pub invariant-loop-i : goal.invariant-loop-i

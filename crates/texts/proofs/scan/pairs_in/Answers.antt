@@ -1,5 +1,4 @@
-use Prim.Native.Nat.{◌-◌}
-use Rattle.texts.proofs.Scanning.{PairsInv, pairs_start, pairs-goes, pairs-ends}
+use Rattle.texts.proofs.Scanning.{pairs_start, pairs-goes, pairs-ends}
 use native.Mathlib.Omega.{arith}
 use Rattle.texts.proofs.scan.pairs_in.Goals as goal
 

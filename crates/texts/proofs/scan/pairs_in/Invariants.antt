@@ -1,6 +1,5 @@
 use Prim.Native.Nat.{◌-◌}
-use Rattle.texts.proofs.Scanning.{PairsInv, pairs_start, pairs-goes, pairs-ends}
-use native.Mathlib.Omega.{arith}
+use Rattle.texts.proofs.Scanning.{PairsInv}
 use Rattle.texts.proofs.scan.pairs_in.Given as goal
 
 abbrev pub invariant-loop-i : goal.invariant-loop-i

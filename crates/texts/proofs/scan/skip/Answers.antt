@@ -1,10 +1,6 @@
-use Prim.Native.Nat.{◌-◌, ◌≤◌}
-use mathlib.Core.Path.{◌≡◌, refl}
-use lib.ListN.{length, drop}
-use Rattle.texts.specs.Reading.{skip}
+use mathlib.Core.Path.{refl}
 use Rattle.texts.proofs.Scanning.{skip-found, skip-none, skip-goes}
 use native.Mathlib.Omega.{arith}
-use borrow.Author.Rules.{rules}
 use Rattle.texts.proofs.scan.skip.Goals as goal
 
 pub loop-i-init : goal.loop-i-init

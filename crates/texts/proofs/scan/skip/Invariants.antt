@@ -1,10 +1,7 @@
 use Prim.Native.Nat.{◌-◌, ◌≤◌}
-use mathlib.Core.Path.{◌≡◌, refl}
+use mathlib.Core.Path.{◌≡◌}
 use lib.ListN.{length, drop}
 use Rattle.texts.specs.Reading.{skip}
-use Rattle.texts.proofs.Scanning.{skip-found, skip-none, skip-goes}
-use native.Mathlib.Omega.{arith}
-use borrow.Author.Rules.{rules}
 use Rattle.texts.proofs.scan.skip.Given as goal
 
 abbrev pub invariant-loop-i : goal.invariant-loop-i

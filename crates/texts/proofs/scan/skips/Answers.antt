@@ -1,7 +1,3 @@
-use Prim.Native.Nat.{◌-◌, ◌≤◌}
-use mathlib.Core.Path.{◌≡◌}
-use lib.ListN.{length, drop}
-use Rattle.texts.specs.Reading.{skips}
 use Rattle.texts.proofs.Scanning.{skips-begin, skips-goes, skips-ends}
 use native.Mathlib.Omega.{arith}
 use Rattle.texts.proofs.scan.skips.Goals as goal

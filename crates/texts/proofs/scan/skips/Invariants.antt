@@ -2,8 +2,6 @@ use Prim.Native.Nat.{◌-◌, ◌≤◌}
 use mathlib.Core.Path.{◌≡◌}
 use lib.ListN.{length, drop}
 use Rattle.texts.specs.Reading.{skips}
-use Rattle.texts.proofs.Scanning.{skips-begin, skips-goes, skips-ends}
-use native.Mathlib.Omega.{arith}
 use Rattle.texts.proofs.scan.skips.Given as goal
 
 abbrev pub invariant-loop-j : goal.invariant-loop-j

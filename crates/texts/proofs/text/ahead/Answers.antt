@@ -1,5 +1,4 @@
 use native.Mathlib.Omega.{arith}
-use borrow.Author.Rules.{rules}
 use Rattle.texts.proofs.text.ahead.Goals as goal
 
 pub returns-then-n-end : goal.returns-then-n-end

@@ -1,7 +1,5 @@
-use mathlib.Core.Path.{refl, sym, ◌∙◌}
-use lib.ListN.{length-map}
-use borrow.Author.Rules.{rules}
+use mathlib.Core.Path.{refl}
 use Rattle.texts.proofs.text.folder_at.Goals as goal
 
 pub returns : goal.returns
-returns c = (refl, sym (length-map c.args.d.folders _) ∙ c.well_formed.0.1.1.1.1.0.1.0.1)
+returns c = (refl, c.well_formed.0.1.1.1.1.0.1.0.1)

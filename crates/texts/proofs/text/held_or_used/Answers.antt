@@ -2,7 +2,6 @@ use mathlib.Core.Path.{◌∙◌}
 use borrow.Author.Tests.{eq-eqb, ne_eqb}
 use Rattle.texts.specs.Text.{held_or_used}
 use native.Mathlib.Omega.{arith}
-use borrow.Author.Rules.{rules}
 use Rattle.texts.proofs.text.held_or_used.Goals as goal
 
 pub overflow_cast-result : goal.overflow_cast-result

@@ -1,6 +1,5 @@
 use Rattle.digits.specs.Digits.{or_dash}
 use Rattle.texts.proofs.Drawing.{field-as}
-use borrow.Author.Rules.{rules}
 use Rattle.texts.proofs.text.put_challenge.Goals as goal
 
 pub returns : goal.returns

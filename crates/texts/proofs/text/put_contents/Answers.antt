@@ -1,8 +1,4 @@
-use Prim.Native.Nat.{◌-◌, ◌≤◌}
-use mathlib.Core.Path.{◌≡◌, sym, refl, ◌∙◌}
-use lib.ListN.{length, drop}
-use Rattle.texts.specs.Text.{rows, lines_for, contents}
-use Rattle.digits.specs.Page.{page, draw}
+use mathlib.Core.Path.{sym, refl, ◌∙◌}
 use Rattle.texts.proofs.Drawing.{rows-begin, rows_more, rows_end}
 use native.Mathlib.Omega.{arith}
 use Rattle.texts.proofs.text.put_contents.Goals as goal

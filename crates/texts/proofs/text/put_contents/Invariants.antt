@@ -1,10 +1,8 @@
 use Prim.Native.Nat.{◌-◌, ◌≤◌}
-use mathlib.Core.Path.{◌≡◌, sym, refl, ◌∙◌}
+use mathlib.Core.Path.{◌≡◌}
 use lib.ListN.{length, drop}
 use Rattle.texts.specs.Text.{rows, lines_for, contents}
 use Rattle.digits.specs.Page.{page, draw}
-use Rattle.texts.proofs.Drawing.{rows-begin, rows_more, rows_end}
-use native.Mathlib.Omega.{arith}
 use Rattle.texts.proofs.text.put_contents.Given as goal
 
 abbrev pub invariant-loop-i : goal.invariant-loop-i

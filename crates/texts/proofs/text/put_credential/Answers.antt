@@ -2,7 +2,6 @@ use Rattle.texts.specs.Text.{credential_line}
 use Rattle.digits.specs.Digits.{or_dash}
 use Rattle.texts.proofs.Drawing.{line-more, line-last, field-as}
 use native.Mathlib.Omega.{arith}
-use borrow.Author.Rules.{rules}
 use Rattle.texts.proofs.text.put_credential.Goals as goal
 
 pub shape_of-out : goal.shape_of-out

@@ -1,6 +1,5 @@
 use Rattle.texts.proofs.Drawing.{credentials-drawn}
 use native.Mathlib.Omega.{arith}
-use borrow.Author.Rules.{rules}
 use Rattle.texts.proofs.text.put_credentials.Goals as goal
 
 pub shape_of-out : goal.shape_of-out

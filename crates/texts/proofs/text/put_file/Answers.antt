@@ -2,7 +2,6 @@ use Rattle.texts.specs.Text.{file_line}
 use Rattle.digits.specs.Digits.{decimal}
 use Rattle.texts.proofs.Drawing.{line-more, line-home, field-as}
 use native.Mathlib.Omega.{arith}
-use borrow.Author.Rules.{rules}
 use Rattle.texts.proofs.text.put_file.Goals as goal
 
 pub shape_of-out : goal.shape_of-out

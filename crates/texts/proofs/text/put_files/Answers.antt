@@ -1,9 +1,6 @@
-use Prim.Native.Nat.{◌-◌, ◌≤◌}
-use mathlib.Core.Path.{◌≡◌, sym, refl, ◌∙◌}
-use lib.ListN.{length, take, drop}
+use mathlib.Core.Path.{sym, refl, ◌∙◌}
+use lib.ListN.{drop}
 use Rattle.files.specs.Directory.{used}
-use Rattle.texts.specs.Text.{files_text}
-use Rattle.digits.specs.Page.{page, draw}
 use Rattle.texts.proofs.Drawing.{files-begin, files-more, files-end}
 use native.Mathlib.Omega.{arith}
 use Rattle.texts.proofs.text.put_files.Goals as goal

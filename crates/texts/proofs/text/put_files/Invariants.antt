@@ -1,11 +1,9 @@
 use Prim.Native.Nat.{◌-◌, ◌≤◌}
-use mathlib.Core.Path.{◌≡◌, sym, refl, ◌∙◌}
+use mathlib.Core.Path.{◌≡◌}
 use lib.ListN.{length, take, drop}
 use Rattle.files.specs.Directory.{used}
 use Rattle.texts.specs.Text.{files_text}
 use Rattle.digits.specs.Page.{page, draw}
-use Rattle.texts.proofs.Drawing.{files-begin, files-more, files-end}
-use native.Mathlib.Omega.{arith}
 use Rattle.texts.proofs.text.put_files.Given as goal
 
 abbrev pub invariant-loop-i : goal.invariant-loop-i

@@ -1,7 +1,6 @@
 use Rattle.texts.specs.Text.{folder_line}
 use Rattle.texts.proofs.Drawing.{line-more, line-last}
 use native.Mathlib.Omega.{arith}
-use borrow.Author.Rules.{rules}
 use Rattle.texts.proofs.text.put_folder.Goals as goal
 
 pub shape_of-out : goal.shape_of-out

@@ -1,8 +1,4 @@
-use Prim.Native.Nat.{◌-◌, ◌≤◌}
-use mathlib.Core.Path.{◌≡◌, sym, refl, ◌∙◌}
-use lib.ListN.{length, take, drop}
-use Rattle.texts.specs.Text.{folder_lines, folder_count}
-use Rattle.digits.specs.Page.{page, draw}
+use mathlib.Core.Path.{sym, refl, ◌∙◌}
 use Rattle.texts.proofs.Drawing.{folders-begin, folders-more, folders-end}
 use native.Mathlib.Omega.{arith}
 use Rattle.texts.proofs.text.put_folders.Goals as goal

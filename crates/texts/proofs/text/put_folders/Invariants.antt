@@ -1,10 +1,8 @@
 use Prim.Native.Nat.{◌-◌, ◌≤◌}
-use mathlib.Core.Path.{◌≡◌, sym, refl, ◌∙◌}
+use mathlib.Core.Path.{◌≡◌}
 use lib.ListN.{length, take, drop}
 use Rattle.texts.specs.Text.{folder_lines, folder_count}
 use Rattle.digits.specs.Page.{page, draw}
-use Rattle.texts.proofs.Drawing.{folders-begin, folders-more, folders-end}
-use native.Mathlib.Omega.{arith}
 use Rattle.texts.proofs.text.put_folders.Given as goal
 
 abbrev pub invariant-loop-i : goal.invariant-loop-i

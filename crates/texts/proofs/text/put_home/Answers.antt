@@ -1,6 +1,5 @@
 use borrow.Author.Tests.{not-true, not-false}
 use Rattle.texts.proofs.Drawing.{no-home, a-home}
-use borrow.Author.Rules.{rules}
 use Rattle.texts.proofs.text.put_home.Goals as goal
 
 pub returns-then-not-form : goal.returns-then-not-form

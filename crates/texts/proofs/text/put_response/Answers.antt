@@ -2,7 +2,6 @@ use Rattle.digits.specs.Digits.{or_dash}
 use Rattle.digits.proofs.Drawn.{draws-then}
 use Rattle.texts.proofs.Drawing.{field-as}
 use native.Mathlib.Omega.{arith}
-use borrow.Author.Rules.{rules}
 use Rattle.texts.proofs.text.put_response.Goals as goal
 
 pub shape_of-out : goal.shape_of-out

@@ -1,4 +1,3 @@
-use borrow.Author.Rules.{rules}
 use Rattle.texts.proofs.text.put_right.Goals as goal
 
 pub returns : goal.returns

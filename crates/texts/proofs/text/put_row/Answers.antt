@@ -1,5 +1,4 @@
 use Rattle.digits.proofs.Drawn.{draws-then}
-use borrow.Author.Rules.{rules}
 use Rattle.texts.proofs.text.put_row.Goals as goal
 
 pub returns : goal.returns

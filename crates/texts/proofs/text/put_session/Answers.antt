@@ -2,7 +2,6 @@ use Rattle.texts.specs.Text.{session_line}
 use Rattle.digits.specs.Digits.{or_dash}
 use Rattle.texts.proofs.Drawing.{line-more, line-two, current-front, field-as}
 use native.Mathlib.Omega.{arith}
-use borrow.Author.Rules.{rules}
 use Rattle.texts.proofs.text.put_session.Goals as goal
 
 pub put_right-a-requires : goal.put_right-a-requires
