@@ -1,10 +1,10 @@
 -- Calls on a card that stays where it lies: what they return, and what they leave there.
 use Rattle.std.specs.Prelude.{ℕ, ◌%◌, cond, List, ◌≡◌}
-use prog.Memory.{size}
+use Rattle.std.specs.Mem.{type_size}
 use Rattle.rules.specs.declared.Card.{Card}
 use Rattle.rules.specs.declared.Answer.{Answer}
 use Rattle.rules.specs.Calls.{Done, Issued}
-use Rattle.rules.proofs.Card.TheLaws.{mir}
+use Rattle.rules.specs.contracts.Card.{the_row}
 use Rattle.stores.specs.declared.Handed.{Handed}
 use Rattle.stores.specs.Handing.{store}
 use Rattle.stores.specs.Runs.{Run}
@@ -70,7 +70,7 @@ pub record PlacesRun (card : Card) (w : Run) (r : ℕ) (card' : Card) (out' : Li
 
 -- the bytes that a card takes, as C lays a struct out
 abbrev pub card_size : ℕ
-card_size = size mir
+card_size = type_size the_row
 
 -- the number that tells versions of the card apart: 1 for document 01, and one more for each landing since that changed the card, the cipher or the calls
 abbrev pub version : ℕ

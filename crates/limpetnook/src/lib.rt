@@ -1,6 +1,7 @@
 // The calls for C, all of them: include/limpetnook.h declares each. A card is lent by `&mut` and driven in place through call after call: each
 // function calls the one of `card` that takes a card by value, and stores the answer.
 #![tactic(auto)]
+
 mod board; // board.rt: the main board's side of a code
 mod hand; // hand.rt: a store as it is handed over
 
@@ -31,32 +32,28 @@ use texts::calls::{from_text, to_new, to_old, to_text};
 const CARD_SIZE: usize = 581;
 
 // The bytes that a card takes.
-#[unsafe(no_mangle)]
-pub extern "C" fn limpet_card_size() -> usize
+pub fn limpet_card_size() -> usize
     ensures { result ≡ card_size }
 {
     CARD_SIZE
 }
 
 // The header has the same number: a caller can tell whether library and header go together.
-#[unsafe(no_mangle)]
-pub extern "C" fn limpet_version() -> u32
+pub fn limpet_version() -> u32
     ensures { result ≡ version }
 {
     12
 }
 
 // One block of AES-128.
-#[unsafe(no_mangle)]
-pub extern "C" fn limpet_aes128(key: &[u8], block: &[u8], out: &mut [u8]) -> u8
+pub fn limpet_aes128(key: &[u8], block: &[u8], out: &mut [u8]) -> u8
     ensures { Enciphered key.now block.now out.old result out.new }
 {
     encipher(key, block, out)
 }
 
 // The code of a message, for the main board's side of the bus: 0. Where key, challenge or code has another length: 6, and code stays as it was.
-#[unsafe(no_mangle)]
-pub extern "C" fn limpet_code(key: &[u8], challenge: &[u8], message: &[u8], code: &mut [u8]) -> u8
+pub fn limpet_code(key: &[u8], challenge: &[u8], message: &[u8], code: &mut [u8]) -> u8
     ensures { Coded key.now challenge.now message.now code.old result code.new }
 {
     if !good_lengths(key.len(), challenge.len(), code.len()) {
@@ -68,8 +65,7 @@ pub extern "C" fn limpet_code(key: &[u8], challenge: &[u8], message: &[u8], code
 }
 
 // The card before it does not matter; a refused issue leaves a blank one.
-#[unsafe(no_mangle)]
-pub extern "C" fn limpet_issue(
+pub fn limpet_issue(
     card: &mut Card,
     area: &mut [u8],
     key: &[u8],
@@ -101,8 +97,7 @@ pub extern "C" fn limpet_issue(
 }
 
 // How many bytes of the reply are the answer is stored through count. A refused command leaves the card, and none is stored.
-#[unsafe(no_mangle)]
-pub extern "C" fn limpet_command(
+pub fn limpet_command(
     card: &mut Card,
     area: &mut [u8],
     cmd: &[u8],
@@ -120,8 +115,7 @@ pub extern "C" fn limpet_command(
     done.outcome
 }
 
-#[unsafe(no_mangle)]
-pub extern "C" fn limpet_reset(card: &mut Card, area: &[u8]) -> u8
+pub fn limpet_reset(card: &mut Card, area: &[u8]) -> u8
     ensures { Placed (reset card.old area.now) result card.new }
 {
     let cleared = reset(*card, area);
@@ -130,8 +124,7 @@ pub extern "C" fn limpet_reset(card: &mut Card, area: &[u8]) -> u8
 }
 
 // A card that a cut left in the middle of a command, or any other.
-#[unsafe(no_mangle)]
-pub extern "C" fn limpet_recover(card: &mut Card, area: &[u8]) -> u8
+pub fn limpet_recover(card: &mut Card, area: &[u8]) -> u8
     ensures { Placed (recover card.old area.now) result card.new }
 {
     let made = recover(*card, area);
@@ -149,8 +142,7 @@ pub struct Slip {
 }
 
 // Store number n of a command; the card is the one from before the command, and stays as it was.
-#[unsafe(no_mangle)]
-pub extern "C" fn limpet_store(
+pub fn limpet_store(
     card: &mut Card,
     area: &[u8],
     cmd: &[u8],
@@ -170,8 +162,7 @@ pub extern "C" fn limpet_store(
 }
 
 // A run of them at once, from number `first` on, three bytes each.
-#[unsafe(no_mangle)]
-pub extern "C" fn limpet_stores(
+pub fn limpet_stores(
     card: &mut Card,
     area: &[u8],
     cmd: &[u8],
@@ -188,13 +179,7 @@ pub extern "C" fn limpet_stores(
 }
 
 // The card is only read. How many bytes of the buffer are the text is stored through count.
-#[unsafe(no_mangle)]
-pub extern "C" fn limpet_to_text(
-    card: &mut Card,
-    area: &[u8],
-    text: &mut [u8],
-    count: &mut usize,
-) -> u8
+pub fn limpet_to_text(card: &mut Card, area: &[u8], text: &mut [u8], count: &mut usize) -> u8
     ensures { PlacesText card.old (to_text new card.old area.now text.old) result card.new text.new count.new }
 {
     let done = to_text(*card, area, text);
@@ -203,8 +188,7 @@ pub extern "C" fn limpet_to_text(
 }
 
 // The card before it does not matter; a text that is refused leaves a blank one.
-#[unsafe(no_mangle)]
-pub extern "C" fn limpet_from_text(card: &mut Card, area: &mut [u8], text: &[u8]) -> u8
+pub fn limpet_from_text(card: &mut Card, area: &mut [u8], text: &[u8]) -> u8
     ensures { PlacesCard (from_text new text.now area.old) result card.new area.new }
 {
     let read = from_text(area, text);
@@ -213,8 +197,7 @@ pub extern "C" fn limpet_from_text(card: &mut Card, area: &mut [u8], text: &[u8]
 }
 
 // An old text, without directories, into a new one.
-#[unsafe(no_mangle)]
-pub extern "C" fn limpet_text_to_new(old: &[u8], text: &mut [u8], count: &mut usize) -> u8
+pub fn limpet_text_to_new(old: &[u8], text: &mut [u8], count: &mut usize) -> u8
     ensures { PlacesConverted (to_new old.now text.old) result text.new count.new }
 {
     let done = to_new(old, text);
@@ -223,8 +206,7 @@ pub extern "C" fn limpet_text_to_new(old: &[u8], text: &mut [u8], count: &mut us
 }
 
 // A new text of a card without a directory into an old one.
-#[unsafe(no_mangle)]
-pub extern "C" fn limpet_text_to_old(given: &[u8], text: &mut [u8], count: &mut usize) -> u8
+pub fn limpet_text_to_old(given: &[u8], text: &mut [u8], count: &mut usize) -> u8
     ensures { PlacesConverted (to_old given.now text.old) result text.new count.new }
 {
     let done = to_old(given, text);

@@ -10,4 +10,4 @@ returns-then-not-good_lengths c = not-coded _ _ _ _ (sym c.good_lengths.ensures 
 pub returns : goal.returns
 returns c = let a = c.args in
     is-coded a.key.now a.challenge.now a.message.now a.code.now (sym c.good_lengths.ensures ∙ not-false _ c.if-not-good_lengths.false-raw) _ _ _ _
-    c.Block-of.ensures c.block_of-2.ensures c.mac-block.ensures (search rules) c.show.ensures.left_is
+    c.block_of.ensures c.block_of-2.ensures c.mac-block.ensures (search rules) c.show.ensures.left_is

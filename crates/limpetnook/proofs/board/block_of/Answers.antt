@@ -1,5 +1,4 @@
 use mathlib.Core.Path.{◌∙◌}
-use borrow.Author.Rules.{rules}
 use Rattle.card.proofs.Filling.{filled-front}
 use Rattle.limpetnook.proofs.board.block_of.Goals as goal
 
