@@ -1,5 +1,8 @@
 """What tests/mutants and tests/wrong-code share: a list of edits, an edit made in a copy, and rattle check over that copy."""
 import concurrent.futures
+import functools
+import importlib.machinery
+import importlib.util
 import os
 import re
 import resource
@@ -10,7 +13,6 @@ import time
 
 ROOT = os.path.dirname(os.path.dirname(os.path.abspath(__file__)))
 CRATES = os.path.join(ROOT, "crates")
-RLIB = os.path.join(ROOT, "target", "rlib")
 
 
 class Malformed(Exception):
@@ -105,33 +107,67 @@ def applied(place, pairs):
     write(text, place)
 
 
+@functools.lru_cache(maxsize=None)
 def kit():
+    """The folder of the toolchain."""
     rt = shutil.which("rt")
     if rt is None:
         sys.exit(f"{sys.argv[0]}: no rt on the path")
-    home = os.environ.get("RATTLE_HOME") or os.path.dirname(os.path.dirname(os.path.realpath(rt)))
-    return home, os.path.join(home, "on", os.uname().machine)
+    return os.environ.get("RATTLE_HOME") or os.path.dirname(os.path.dirname(os.path.realpath(rt)))
+
+
+@functools.lru_cache(maxsize=None)
+def rtlib():
+    """rt's own module, which tells what it has proved."""
+    loader = importlib.machinery.SourceFileLoader("rtlib", os.path.join(kit(), "bin", "rtlib.py"))
+    module = importlib.util.module_from_spec(importlib.util.spec_from_loader("rtlib", loader))
+    written, sys.dont_write_bytecode = sys.dont_write_bytecode, True
+    loader.exec_module(module)
+    sys.dont_write_bytecode = written
+    return module
+
+
+def rlib(crate):
+    """Where rt puts the library of a proved crate."""
+    return os.path.join(CRATES, crate, "out", "rlib", crate + ".rlib")
+
+
+def kept_of(crate):
+    """Where rt keeps what it checked of a crate."""
+    return os.path.join(CRATES, crate, "out", "incremental")
 
 
 def check(name, source, libraries, kept=None):
-    """rattle check of a crate over libraries, each a source folder or a proved rlib: exit status and output. What an
-    earlier check left in the folder kept, and is still the same, is not checked again."""
-    home, own = kit()
-    words = [os.path.join(own, "bin", "rattle"), "check", "--crate-name", name, os.path.join(source, "src", "lib.rt")]
-    words += ["--extern", f"std={own}/rlib/std.rlib"]
+    """rattle check of a crate over libraries, each a source folder or a proved rlib: exit status and output, with whole paths. What
+    an earlier check left in the folder kept, and is still the same, is not checked again."""
+    home = kit()
+    words = [os.path.join(home, "bin", "rattle"), "check", "--crate-name", name, "src/lib.rt"]
+    words += ["--extern", f"std={home}/rlibs/std.rlib", "-L", f"dependency={home}/rlibs"]
+    if not all(place.endswith(".rlib") for place in libraries.values()):
+        words += ["--extern", f"core={home}/rlibs/core.rlib"]
     for library, place in libraries.items():
-        words += ["--extern", f"{library}={place}"] if place.endswith(".rlib") else ["--lib", f"{library}={place}/src/lib.rt"]
-    words += ["-L", f"dependency={RLIB}", "-L", f"dependency={own}/rlib"]
-    words += ["--antt-project", f"{home}/logic/antt-project.json", "--logic-built", f"{own}/logic-built"]
+        words += ["--extern", f"{library}={place}"] if place.endswith(".rlib") else ["--lib", f"{library}:{','.join(['core', 'std', *[one for one in cited(library) if one in libraries]])}={place}/src/lib.rt"]
+    for below in sorted(closed({crate: cited(crate) for crate in listed()}, [library for library, place in libraries.items() if place.endswith(".rlib")])):
+        words += ["-L", f"dependency={os.path.dirname(rlib(below))}"]
+    words += ["--antt-project", f"{home}/rattle/logic/antt-project.json", "--logic-built", f"{home}/logic_built"]
+    words += ["--jobs", "1", "--links", f"{name}="]
     words += ["--incremental", kept] if kept else []
-    done = subprocess.run(words, capture_output=True, text=True, errors="replace")
-    return done.returncode, done.stdout + done.stderr
+    done = subprocess.run(words, cwd=source, stdin=subprocess.DEVNULL, capture_output=True, text=True, errors="replace")
+    return done.returncode, re.sub(r"^\./", lambda found: source + os.sep, done.stdout + done.stderr, flags=re.M)
 
 
 def shared(kept, copy):
-    """A copy of a folder that check keeps modules in, with the same files for modules: rattle writes one that it checks again into a new
-    file, which takes the old one's place. When it was last used it writes into the file."""
-    shutil.copytree(kept, copy, copy_function=lambda old, new: (os.link if old.endswith(".oantt") else shutil.copy2)(old, new))
+    """A copy of a folder that check keeps modules in, with the same files for modules where that can be: rattle writes one that it checks
+    again into a new file, which takes the old one's place. When it was last used it writes into the file."""
+    def one(old, new):
+        try:
+            if old.endswith(".oantt"):
+                return os.link(old, new)
+        except OSError:
+            pass
+        return shutil.copy2(old, new)
+
+    shutil.copytree(kept, copy, copy_function=one)
 
 
 def as_it_was(kept, since):
@@ -150,28 +186,30 @@ def errors(output):
     return [line for line in output.splitlines() if re.match(r"\S+:\d+:\d+: error", line)]
 
 
+@functools.lru_cache(maxsize=None)
+def listed():
+    """The crates of crates.txt, lowest first, each with the crates that it cites."""
+    return dict(re.findall(r"^(\w+):(.*)$", read(ROOT, "crates.txt"), re.M))
+
+
 def cited(crate):
-    """The crates that crates.txt has behind a crate's name, those of the kit too."""
-    line = re.search(rf"^{crate}:(.*)$", read(ROOT, "crates.txt"), re.M)
-    return line[1].split()
+    """The crates that crates.txt has behind a crate's name."""
+    return [one for one in listed()[crate].split() if one in listed()]
 
 
+@functools.lru_cache(maxsize=None)
 def is_proved(crate):
-    """Whether rt proved the crate after its files last changed, and after those that it cites were proved."""
-    stamp, below = os.path.join(ROOT, "target", "stamp", crate), [one for one in cited(crate) if os.path.isdir(os.path.join(CRATES, one))]
-    if not os.path.exists(stamp) or not os.path.exists(os.path.join(RLIB, crate + ".rlib")) or not all(map(is_proved, below)):
-        return False
-    places = (os.path.join(CRATES, crate, part) for part in ("src", "specs", "proofs"))
-    files = [os.path.join(folder, name) for place in places for folder, _, names in os.walk(place) for name in names]
-    files += [os.path.join(ROOT, "target", "stamp", one) for one in below]
-    return all(os.path.getmtime(file) < os.path.getmtime(stamp) for file in files)
+    """Whether rt has made the library of the crate as its files and those below now are, which it does of a proved crate alone."""
+    return rtlib().Crate(os.path.join(CRATES, crate), ROOT, {}).is_built()
 
 
 def prove(crates):
-    """Has rt prove the crates, where they are not: only then, since rt may be at work for others."""
-    if not all(map(is_proved, crates)):
-        if subprocess.run(["rt", "check", *crates], cwd=ROOT, stdout=subprocess.DEVNULL).returncode:
-            sys.exit(f"{sys.argv[0]}: not proved: {' '.join(crates)}")
+    """Has rt prove the crates and those below, where they are not, and make their libraries."""
+    below = closed({crate: cited(crate) for crate in listed()}, crates)
+    for crate in [one for one in listed() if one in below and not is_proved(one)]:
+        if subprocess.run(["rt", "lib"], cwd=os.path.join(CRATES, crate), stdin=subprocess.DEVNULL, stdout=subprocess.DEVNULL).returncode:
+            sys.exit(f"{sys.argv[0]}: not proved: {crate}")
+    is_proved.cache_clear()
 
 
 def all_tried(what, tasks):
