@@ -6,13 +6,13 @@ use borrow.Author.Rules.{rules}
 use Rattle.totals.proofs.read_all.Goals as goal
 
 pub loop-turns-init : goal.loop-turns-init
-loop-turns-init c = (search rules, follows-none _)
+loop-turns-init g c = (search rules, follows-none _)
 
 pub returns-then-not-now : goal.returns-then-not-now
-returns-then-not-now c = c.loop-turns.invariant.1
+returns-then-not-now g c = c.loop-turns.invariant.1
 
 pub loop-turns-preserved : goal.loop-turns-preserved
-loop-turns-preserved c = (search rules, follows-more c.loop-turns.invariant.1 c.read_Some.ensures)
+loop-turns-preserved g c = (search rules, follows-more c.loop-turns.invariant.1 c.read_some-next.ensures)
 
 pub returns : goal.returns
-returns c = c.loop-turns.invariant.1
+returns g c = c.loop-turns.invariant.1

@@ -6,7 +6,7 @@ use borrow.Author.Rules.{rules}
 use Rattle.totals.proofs.read_all.Given as goal
 
 abbrev pub invariant-loop-turns : goal.invariant-loop-turns
-invariant-loop-turns l = (length l.chunk ≡ length l.initial.chunk) × Follows l.initial.now.feed l.now.feed
+invariant-loop-turns g l = (length l.chunk ≡ length l.initial.chunk) × Follows l.initial.now.feed l.now.feed
 
 abbrev pub decreases-loop-turns : goal.decreases-loop-turns
-decreases-loop-turns l = l.turns
+decreases-loop-turns g l = l.turns

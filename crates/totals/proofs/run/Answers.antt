@@ -3,4 +3,4 @@ use borrow.Author.Rules.{rules}
 use Rattle.totals.proofs.run.Goals as goal
 
 pub returns : goal.returns
-returns c = reported _ _ c.args.out.now _ _ c.start-feed.ensures c.read_all-last.ensures c.requires c.told.ensures
+returns g c = reported _ _ c.args.out.now _ _ c.start-feed.ensures c.read_all-last.ensures c.requires c.told.ensures
