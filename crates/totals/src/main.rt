@@ -1,5 +1,6 @@
 // Reads alarm records as lines of text from standard input, and prints the totals for each line and kind.
 #![tactic(auto)]
+
 ghost use Rattle.std.specs.Prelude.{◌≤◌, length};
 ghost use Rattle.totals.specs.Reading.{Follows, Reported};
 

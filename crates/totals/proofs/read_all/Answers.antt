@@ -1,6 +1,3 @@
-use mathlib.Core.Path.{◌≡◌}
-use lib.ListN.{length}
-use Rattle.totals.specs.Reading.{Follows}
 use Rattle.totals.proofs.Read.{follows-none, follows-more}
 use borrow.Author.Rules.{rules}
 use Rattle.totals.proofs.read_all.Goals as goal
@@ -8,11 +5,5 @@ use Rattle.totals.proofs.read_all.Goals as goal
 pub loop-turns-init : goal.loop-turns-init
 loop-turns-init g c = (search rules, follows-none _)
 
-pub returns-then-not-now : goal.returns-then-not-now
-returns-then-not-now g c = c.loop-turns.invariant.1
-
 pub loop-turns-preserved : goal.loop-turns-preserved
 loop-turns-preserved g c = (search rules, follows-more c.loop-turns.invariant.1 c.read_some-next.ensures)
-
-pub returns : goal.returns
-returns g c = c.loop-turns.invariant.1

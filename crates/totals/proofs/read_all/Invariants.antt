@@ -1,8 +1,6 @@
 use mathlib.Core.Path.{◌≡◌}
 use lib.ListN.{length}
 use Rattle.totals.specs.Reading.{Follows}
-use Rattle.totals.proofs.Read.{follows-none, follows-more}
-use borrow.Author.Rules.{rules}
 use Rattle.totals.proofs.read_all.Given as goal
 
 abbrev pub invariant-loop-turns : goal.invariant-loop-turns

@@ -1,5 +1,4 @@
 use Rattle.totals.proofs.Read.{reported}
-use borrow.Author.Rules.{rules}
 use Rattle.totals.proofs.run.Goals as goal
 
 pub returns : goal.returns
