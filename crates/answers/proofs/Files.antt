@@ -62,7 +62,7 @@ files = record {
   find-find-sfi = λ κs a x y. returned;
   find-find-folder = λ κs a x y. returned;
   run-show = λ κs a x y p q i. let z = reading p q i in (z.0, (tt, (tt, (tt, (z.1, tt)))));
-  run_store = λ κs a x y p q i. let z = writing p q i in (z.0, (z.1, (tt, (tt, tt))));
+  run-store = λ κs a x y p q i. let z = writing p q i in (z.0, (z.1, (tt, (tt, tt))));
   run-clear = λ κs a x y p q i. (tt, (one_answer p q i, tt));
   binary-in-binary = λ κs a x y. returned;
   binary-read = λ κs a x y p q i. let z = reading p q i in (z.0, (tt, (tt, (tt, (tt, (z.1, tt))))));

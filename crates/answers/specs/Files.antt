@@ -43,7 +43,7 @@ pub record Files : Type 0 where
   pub find-find-sfi : OneAnswer contracts.find.find_sfi.ended files.find.find_sfi.Reads.Learnt
   pub find-find-folder : OneAnswer contracts.find.find_folder.ended files.find.find_folder.Reads.Learnt
   pub run-show : OneAnswer contracts.run.show.ended files.run.show.Reads.Learnt
-  pub run_store : OneAnswer contracts.run.store.ended files.run.store.Reads.Learnt
+  pub run-store : OneAnswer contracts.run.store.ended files.run.store.Reads.Learnt
   pub run-clear : OneAnswer contracts.run.clear.ended files.run.clear.Reads.Learnt
   pub binary-in-binary : OneAnswer contracts.binary.in_binary.ended files.binary.in_binary.Reads.Learnt
   pub binary-read : OneAnswer contracts.binary.read.ended files.binary.read.Reads.Learnt
