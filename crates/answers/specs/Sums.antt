@@ -6,7 +6,7 @@ use Rattle.answers.specs.OneAnswer.{OneAnswer, OneAnswerOf}
 pub record Sums : Type 2 where
   pub is-good : OneAnswer contracts.is_good.ended sums.is_good.Reads.Learnt
   pub add : OneAnswer contracts.add.ended sums.add.Reads.Learnt
-  -- this one is lent a slice of structs, and the prover makes no `Reads` for that
+  -- this one is lent a slice of structs, and is stated on its clauses, the whole contract
   pub sum : OneAnswerOf contracts.sum.ended (λ M 𝓤. contracts.sum.clauses)
   pub all : OneAnswer contracts.all.ended sums.all.Reads.Learnt
   pub no-totals : OneAnswer contracts.no_totals.ended sums.no_totals.Reads.Learnt
