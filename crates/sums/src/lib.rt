@@ -110,7 +110,7 @@ pub fn sum(alarms: &[Alarm], t: Totals) -> Summed
     answered(r, len)
 }
 
-// The same of a whole batch, which is never refused: plain parameters, so that whoever calls it needs no walk.
+// The same of a whole batch, which is never refused, with plain parameters.
 pub fn all(batch: [Alarm; 1000], t: Totals) -> Summed
     ensures { result ≡ answer (sum_of t batch) false }
 {
