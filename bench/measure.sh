@@ -13,7 +13,7 @@ earlier() {
 # is the same on cards of mode 1, with a GET RESPONSE behind each command that has data, as far as a script may go.
 make_scripts() {
     python3 tests/model/generate.py 1 "$1" | LC_ALL=C sed -E 's/^(ISSUE(\t[^\t]*){6})\t[0-9]+((\t[^\t]*){2})$/\1\t0\3/' >"$work/mode-0"
-    x86 target/bin/script <"$work/mode-0" >"$work/answers"
+    x86 crates/script/out/script <"$work/mode-0" >"$work/answers"
     python3 bench/fetching.py "$work/mode-0" "$work/answers" >"$work/mode-1"
 }
 
@@ -49,8 +49,8 @@ row() {
 
 # seconds_of_programs SCRIPT: those of the script program and of the one in plain C, ten turns each. They have to print the same.
 seconds_of_programs() {
-    cmp <(x86 target/bin/script <"$1") <(x86 "$built/plain_script" <"$1") >&2 || return
-    by_turns 10 "$1" "${runner[@]}" target/bin/script -- "$1" "${runner[@]}" "$built/plain_script" | paste -s -d ' '
+    cmp <(x86 crates/script/out/script <"$1") <(x86 "$built/plain_script" <"$1") >&2 || return
+    by_turns 10 "$1" "${runner[@]}" crates/script/out/script -- "$1" "${runner[@]}" "$built/plain_script" | paste -s -d ' '
 }
 
 # rate PROGRAM SCRIPT ROUNDS: the calls that it makes, and how many a second of processor time in the fastest round.
@@ -112,29 +112,12 @@ change() {
     awk -v now="$1" -v before="$2" 'BEGIN { printf "%+.1f %%", (before > 0 ? 100 * now / before - 100 : 0) }'
 }
 
-# build_table_version: has `table_version` name libcipher.a as it was with the substitution table. Where it is not there, it is proved
-# and built from the last commit that had the table, outside of this checkout.
-build_table_version() {
-    local without tree status=0
+# find_table_version: has `table_version` name libcipher.a as it was with the substitution table, where somebody has put it there. It stood in
+# crates/cipher/src/table.rt, in the Rattle of an earlier kit, and today's proves and builds none of that.
+find_table_version() {
     table_version=target/table-version/libcipher.a
-    if [ -e $table_version ]; then
-        return
+    if [ ! -e $table_version ]; then
+        table_version=
+        echo "left out, since an earlier kit alone builds it (bench/measure.sh): the version with the substitution table"
     fi
-    without=$(git log -1 --format=%H --diff-filter=D -- crates/cipher/src/table.rt)
-    if [ -z "$without" ]; then
-        echo "the version with the table is not in this history: git log finds no commit that removes crates/cipher/src/table.rt" >&2
-        return 1
-    fi
-    echo "building libcipher.a with the table, from the commit before $without" >&2
-    tree=$(mktemp -d)
-    mkdir -p "$(dirname $table_version)"
-    if git worktree add -q --detach "$tree/r" "$without^"; then
-        (cd "$tree/r" && rt staticlib cipher) >"$tree/log" 2>&1 &&
-            cp "$tree/r/target/staticlib/libcipher.a" $table_version || { status=1 && cat "$tree/log" >&2; }
-        git worktree remove --force "$tree/r"
-    else
-        status=1
-    fi
-    rm -rf "$tree"
-    return $status
 }

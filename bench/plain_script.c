@@ -2,7 +2,7 @@
  * The script program of document 01 in plain C: a script from standard input, a
  * line for each of its lines out. It was written from the papers, and not from the
  * code in crates/, and drives whichever card it is linked with: bench/plain_card.c
- * as a rule. bench/beside measures target/bin/script beside it.
+ * as a rule. bench/beside measures crates/script/out/script beside it.
  *
  * Input is read and output written in blocks, so an answer waits for its block to
  * be full or for the end.

@@ -1,6 +1,6 @@
 /*
  * The office's report in plain C: lines of alarms from standard input, counts and
- * minutes for each line and kind out. bench/totals measures target/bin/totals beside it.
+ * minutes for each line and kind out. bench/totals measures crates/totals/out/totals beside it.
  */
 #include <stdint.h>
 #include <stdio.h>

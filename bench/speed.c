@@ -31,10 +31,12 @@ typedef void cipher(const uint8_t key[SIZE], const uint8_t block[SIZE], uint8_t 
 /* aes_bytes.c, compiled twice */
 cipher aes_bytes_O2, aes_bytes_O3;
 
+#ifdef WITH_TABLE
 /* limpet_aes128 as it was with a table */
 uint8_t limpet_aes128_table(const uint8_t *key, size_t key_len,
                             const uint8_t *block, size_t block_len,
                             uint8_t *out, size_t out_len);
+#endif
 
 static void ours(const uint8_t *key, const uint8_t *block, uint8_t *out)
 {
@@ -42,11 +44,13 @@ static void ours(const uint8_t *key, const uint8_t *block, uint8_t *out)
         abort();
 }
 
+#ifdef WITH_TABLE
 static void with_table(const uint8_t *key, const uint8_t *block, uint8_t *out)
 {
     if (limpet_aes128_table(key, SIZE, block, SIZE, out, SIZE) != LIMPET_OK)
         abort();
 }
+#endif
 
 #ifdef WITH_OTHERS
 static void openssls(const uint8_t *key, const uint8_t *block, uint8_t *out)
@@ -84,7 +88,9 @@ static struct contender {
     uint8_t last[SIZE];
 } contenders[] = {
     { "ours (limpet_aes128)", ours, 0, { 0 } },
+#ifdef WITH_TABLE
     { "ours, as it was with a table", with_table, 0, { 0 } },
+#endif
     { "C by bytes, gcc -O2", aes_bytes_O2, 0, { 0 } },
     { "C by bytes, gcc -O3", aes_bytes_O3, 0, { 0 } },
 #ifdef WITH_OTHERS

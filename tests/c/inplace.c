@@ -1,6 +1,6 @@
 /*
  * Keeps one card and drives it through a script, call after call in place.
- * Reads and prints what the script program (target/bin/script) does; beside
+ * Reads and prints what the script program (crates/script/out/script) does; beside
  * that every call is watched, as watched.h says.
  */
 #include <stdbool.h>

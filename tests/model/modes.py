@@ -4,7 +4,7 @@ Each script is run with mode 0 in its ISSUE lines and with mode 1. In mode 1 GET
 waiting by the model: in one run with Le 00, in another cut by chance, with refused ones between the parts. Outcome, joined
 data and last SW of every line have to be those of mode 0, and every 61xx has to say what waits. GET RESPONSE lines of the
 scripts themselves are left out, for mode 0 has no such command. A script is a test in each of the two runs. Without PROGRAM
-the built one is run, target/bin/script.
+the built one is run, crates/script/out/script.
 """
 
 import argparse
@@ -19,7 +19,7 @@ import generate
 import script
 
 ROOT = os.path.dirname(os.path.dirname(os.path.dirname(os.path.abspath(__file__))))
-BUILT = [os.path.join(ROOT, "tools", "x86", "run"), os.path.join(ROOT, "target", "bin", "script")]
+BUILT = [os.path.join(ROOT, "tools", "x86", "run"), os.path.join(ROOT, "crates", "script", "out", "script")]
 SECONDS_TO_RUN = 120
 SEED = 6
 MOST_SHOWN = 3

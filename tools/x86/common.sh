@@ -14,7 +14,6 @@ source tools/x86/module.sh
 # with what watches a program at work. x86 PROGRAM ARGUMENT... runs such a program, and one that rt has built. Where that is x86-64 and
 # the machine is not, it is emulated, and nothing can watch what it does to memory; its instructions can be counted.
 library=target/library/$native/liblimpetnook.a
-[ $native != x86_64-linux ] || library=target/staticlib/liblimpetnook.a
 emulated=no
 cc=gcc cxx=g++
 for_c=(gcc libc6-dev) for_cxx=(g++) to_watch=(valgrind)
@@ -99,41 +98,61 @@ alone() {
 }
 is_alone() { [ "${ALONE_IN-}" = "$(readlink /proc/self/ns/net)" ]; }
 
-# cited_by CRATE: has `crates` be those of this repository that the crate cites, and then the crate.
-cited_by() {
-    local name cited crate
-    crates=()
+# cites CRATE: what the crate's line of crates.txt names.
+cites() {
+    local name cited
     while IFS=: read -r name cited; do
-        [ "$name" = "$1" ] || continue
-        for crate in $cited "$name"; do
-            [ ! -d "crates/$crate" ] || crates+=("$crate") # the others are the kit's
-        done
+        [ "${name%% *}" != "$1" ] || echo "$cited" # a library for C has the word staticlib behind its name
     done <crates.txt
+}
+
+# cited_by CRATE: has `crates` be those of this repository that the crate rests on, each behind those that it rests on itself, and then the
+# crate. In that order rt proves them.
+cited_by() {
+    crates=()
+    add_cited "$1"
+}
+add_cited() {
+    local crate
+    for crate in $(cites "$1"); do
+        # the others are the kit's
+        [ ! -d "crates/$crate" ] || [[ " ${crates[*]} " == *" $crate "* ]] || add_cited "$crate"
+    done
+    crates+=("$1")
+}
+
+# find_files TEST...: what `find` finds among crates.txt and the files of `crates`, but for must-fail edits and what rt makes.
+find_files() {
+    find crates.txt "${crates[@]/#/crates/}" -regex 'crates/[^/]*/\(out\|must-fail\)' -prune -o -type f "$@"
 }
 
 # is_old FILE CRATE: whether FILE, which rt builds of the crate, is missing or older than what it is proved and built from.
 is_old() {
     local crates
     cited_by "$2"
-    [ ! -e "$1" ] || [ -n "$(find crates.txt "${crates[@]/#/crates/}" -type f ! -path '*/must-fail/*' -newer "$1" -print -quit)" ]
+    [ ! -e "$1" ] || [ -n "$(find_files -newer "$1" -print -quit)" ]
 }
 
-# may_build WHO: whether the user can write target/; where not, WHO says that something is to be built there.
+# may_build WHO: whether the user can write where rt and the scripts do; where not, WHO says that something is to be built there.
 may_build() {
-    if ! mkdir -p target/log target/reader 2>/dev/null || [ ! -w target ] || [ ! -w target/log ] || [ ! -w target/reader ]; then
-        echo "$1: it is not built, and $(id -un) cannot write $PWD/target to build it; somebody who can is to run it once" >&2
-        return 1
-    fi
+    local folder
+    for folder in target target/reader crates/*; do
+        if ! mkdir -p "$folder" 2>/dev/null || [ ! -w "$folder" ]; then
+            [[ $folder == crates/* ]] || folder=target
+            echo "$1: it is not built, and $(id -un) cannot write $PWD/$folder to build it; somebody who can is to run it once" >&2
+            return 1
+        fi
+    done
 }
 
-# logged WHO CRATE LOG COMMAND...: runs a command that has rt prove CRATE, and no second one beside it, since rt keeps none away.
+# logged WHO CRATE LOG COMMAND...: runs a command that has rt prove CRATE, and no second one beside it, which would build the same again.
 # What it prints goes to LOG. WHO tells of each crate as it is begun and proved and, where the command fails, the errors in LOG.
 # The exit status is the command's.
 logged() {
     local who=$1 log=$3 crates status=0
     cited_by "$2"
     shift 3
-    mkdir -p target/log "${log%/*}" || return
+    mkdir -p "${log%/*}" || return
     {
         flock -n 9 || { echo "$who: waiting for another build to end" >&2 && flock 9; }
         touch target/build.lock
@@ -148,7 +167,7 @@ logged() {
 # watched COMMAND...: for logged, in a shell of its own. The command is a process group of its own, and has not the lock, which it might
 # leave to what it starts. Where this shell is ended, or the one that waits for it, it ends that group, and has the lock until then.
 watched() {
-    local build ended parent count=0
+    local build ended parent
     local -A last=()
     set -m # that is what makes a process group
     "$@" >"$log" 2>&1 </dev/null 9>&- &
@@ -166,21 +185,24 @@ watched() {
     wait "$build"
 } >&2
 
-# tell_crates: for watched, tells of crates that were begun or proved since it was asked last.
+# tell_crates: for watched, tells of crates that were begun or proved since it was asked last. rt passes over those that are proved already,
+# and says nothing of them: they count as done when one behind them is begun.
 tell_crates() {
-    local crate logs printed now
-    # rt prints nothing of a crate before those beside it are proved too; target/log has it at once.
-    mapfile -t logs < <(find target/log -name '*.out' -newer target/build.lock)
-    printed=$(grep -ah '^rt: ' "$log" "${logs[@]}") # read once, so that no crate is told of before one proved earlier
-    for crate in "${crates[@]}"; do
-        now=$(sed -n "s/^rt: \($crate proved (.*\)/\1/p
-            s|^rt: target/staticlib/lib$crate\.a has .*|$crate proved|p" <<<"$printed" | head -n 1)
-        [ -n "$now" ] || [ ! "target/log/$crate.say" -nt target/build.lock ] || now="proving $crate"
-        [ "$now" != "${last[$crate]-}" ] || continue
+    local said crate=none now place
+    while read -r said; do
+        now=proving
+        [ "$said" = proved ] && now=proved || crate=$said
+        for ((place = 0; place < ${#crates[@]}; place++)); do
+            [ "${crates[place]}" != "$crate" ] || break
+        done
+        ((place < ${#crates[@]})) && [[ ! ${last[$crate]-} =~ ^($now|proved)$ ]] || continue
         last[$crate]=$now
-        [[ $now == proving* ]] || count=$((count + 1))
-        echo "$who: $now, $count of ${#crates[@]} done"
-    done
+        if [ $now = proved ]; then
+            echo "$who: $crate proved, $((place + 1)) of ${#crates[@]} done"
+        else
+            echo "$who: proving $crate, $place of ${#crates[@]} done"
+        fi
+    done < <(sed -n 's/^rt: chose --jobs [0-9]* for \([a-z0-9_]*\)$/\1/p; s/^proving \([a-z0-9_]*\)$/\1/p; s/^logic=proved .*/proved/p' "$log")
 }
 
 # What the fronts say of a first build: seen on two cores of x86-64 and of Arm.
@@ -195,23 +217,19 @@ built_before() {
     if library_is_old; then
         echo "$who: proving and building the library; $how_long ($log)" >&2
     fi
-    if ! logged "$who" limpetnook "$log" "$@"; then
+    if ! logged "$who" $library_crate "$log" "$@"; then
         echo "$who: not built; $log has all that was said" >&2
         exit 1
     fi
 }
 
-library_is_old() { is_old $library limpetnook; }
+library_is_old() { is_old $library $library_crate; }
 
 # build_library: the prover makes it, which takes a while, so only where that is needed.
 build_library() {
     library_is_old || return 0
     library_is_proved || prove_library || return
-    if [ $native = x86_64-linux ]; then
-        cp $modules/limpetnook.a $library
-    else
-        write_library $native && touch $library
-    fi
+    write_library $native && touch $library
 }
 
 # sections FILE: the bytes of its code and of its constants, without tables for unwinding the stack. The file may be for any processor.
@@ -461,7 +479,7 @@ quietly() {
 agrees() {
     local script=$1
     shift
-    x86 target/bin/script <"$script" >"$work/by-value" &&
+    x86 crates/script/out/script <"$script" >"$work/by-value" &&
         "$@" <"$script" >"$work/in-place" &&
         cmp "$work/by-value" "$work/in-place"
 }

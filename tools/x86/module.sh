@@ -1,81 +1,130 @@
-# The proved module that rt hands to the kit's compiler: kept, and compiled for other processors too. common.sh sources it.
+# The proved module that rattle hands to the kit's compiler: kept, and compiled for other processors too. common.sh sources it.
 
 # What programs and library are for: the processor of this machine, or with for_x86=yes x86-64, as all is that rt builds.
 native=$(uname -m)-linux
 [ "${for_x86-no}" = no ] || native=x86_64-linux
 
-# A module is $modules/CRATE.bc. Beside it are the words that rt's compiler had, one to a line, and what the module was made from.
+# The module of the library is $modules/limpetnook.bc. Beside it are the words that rattle's compiler had, one to a line, the archive that it
+# made, what all was made from, and what rattle said.
 modules=target/library/module
+
+# The crate that has the calls of the library for C.
+library_crate=limpetnook_c
 
 # toolchain: the folder of the kit's compiler.
 toolchain() {
     local kit
-    kit=$(tools/x86/kit) && echo "$kit/on/$(uname -m)/toolchain/bin"
+    kit=$(tools/x86/kit) && echo "$kit/toolchain/bin"
 }
 
-# made_from CRATE: sums of all that a module of the crate is made from: the kit, and the files of the crate and of those that it cites.
+# made_from CRATE: sums of all that a module of the crate is made from: the kit, and the files of the crate and of those that it rests on.
 made_from() {
     local kit crates
     kit=$(tools/x86/kit) || return
     cited_by "$1"
     cat "$kit/KIT-ID" || return
-    find crates.txt "${crates[@]/#/crates/}" -type f ! -path '*/must-fail/*' -print0 | LC_ALL=C sort -z | xargs -0 sha256sum
+    find_files -print0 | LC_ALL=C sort -z | xargs -0 sha256sum
 }
 
-# has_module CRATE: whether a module is kept of the crate as it is now.
-has_module() {
-    [ -e "$modules/$1.bc" ] && made_from "$1" | cmp -s "$modules/$1.from" -
-}
-
-# make_kit FOLDER KEPT: the kit once more, but for its compiler. That one keeps its module and its words, as KEPT/CRATE.bc and
-# KEPT/CRATE.words, and then compiles as ever. Which crate it is stands in the command that starts it.
-make_kit() {
-    local kit own part
-    kit=$(tools/x86/kit) || return
-    own=on/$(uname -m)/toolchain
-    mkdir -p "$1/$own/bin" "$2"
-    for part in "$kit"/* "$kit/${own%/*}"/* "$kit/$own"/* "$kit/$own/bin"/*; do
-        [ "${part##*/}" = clang ] || [ -e "$1${part#"$kit"}" ] || ln -s "$part" "$1${part#"$kit"}"
+# make_toolchain FOLDER: the kit's toolchain once more, but for its compiler. That one keeps its module and its words, as FOLDER/kept.bc and
+# FOLDER/kept.words, and then compiles as ever.
+make_toolchain() {
+    local own part
+    own=$(toolchain) || return
+    mkdir -p "$1/bin"
+    ln -s "${own%/bin}/lib" "$1"
+    for part in "$own"/*; do
+        [ "${part##*/}" = clang ] || ln -s "$part" "$1/bin"
     done
-    cat >"$1/$own/bin/clang" <<END
+    cat >"$1/bin/clang" <<END
 #!/bin/sh
-crate=\$(tr '\\0' '\\n' </proc/\$PPID/cmdline | sed -n '/^--crate-name\$/{n;p;}')
 for word; do
     case \$word in
-    *.bc) cp "\$word" '$2'/"\$crate.bc" && printf '%s\\n' "\$@" >'$2'/"\$crate.words" || exit ;;
+    *.bc) cp "\$word" '$1/kept.bc' && printf '%s\\n' "\$@" >'$1/kept.words' || exit ;;
     esac
 done
-exec '$kit/$own/bin/clang' "\$@"
+exec '$own/clang' "\$@"
 END
-    chmod +x "$1/$own/bin/clang"
+    chmod +x "$1/bin/clang"
 }
 
-# keeping CRATES COMMAND...: runs the command, by which rt proves and builds these crates, and keeps their modules. Where that fails there
-# are none, and earlier ones are gone.
-keeping() (
-    read -ra kept <<<"$1"
-    shift
+# are_proved CRATE...: whether rt has proved and built these libraries in this run of the gate, which $proved_since tells of.
+are_proved() {
+    local crate rlib
+    [ -n "${proved_since-}" ] || return
+    for crate; do
+        rlib=crates/$crate/out/rlib/$crate.rlib
+        [ "$rlib" -nt "$proved_since" ] && [ -e "$rlib/toolchain/mir.json" ] || return
+    done
+}
+
+# prove_below CRATE: has rt prove and build the libraries that the crate rests on, where the gate's rt ci has not just done so.
+prove_below() {
+    local crates below crate done=' '
+    cited_by "$1"
+    below=("${crates[@]}")
+    unset 'below[-1]'
+    ! are_proved "${below[@]}" || return 0
+    while ((${#below[@]} > 0)); do
+        crate=${below[-1]}
+        unset 'below[-1]'
+        [[ $done != *" $crate "* ]] || continue
+        (cd "crates/$crate" && rt lib) || return # and those below it
+        cited_by "$crate"
+        done+="${crates[*]} "
+    done
+}
+
+# over_libraries CRATE COMMAND WORD...: runs that command of rattle on the crate, in the crate's folder, over the libraries that
+# prove_below has. But for WORD... the words are those that rt has for it.
+over_libraries() {
+    local kit root=lib name crates words=()
+    kit=$(tools/x86/kit) || return
+    [ ! -e "crates/$1/src/main.rt" ] || root=main
+    words=("$2" --crate-name "$1" "src/$root.rt" --extern "std=$kit/rlibs/std.rlib" -L "dependency=$kit/rlibs")
+    for name in $(cites "$1"); do
+        if [ -d "crates/$name" ]; then
+            words+=(--extern "$name=../$name/out/rlib/$name.rlib")
+        else
+            words+=(--extern "$name=$kit/rlibs/$name.rlib")
+        fi
+    done
+    cited_by "$1"
+    unset 'crates[-1]'
+    for name in "${crates[@]}"; do
+        words+=(-L "dependency=../$name/out/rlib")
+    done
+    words+=(--antt-project "$kit/rattle/logic/antt-project.json" --logic-built "$kit/logic_built" --jobs 1 --links "$1=" "${@:3}")
+    echo "proving $1"
+    (cd "crates/$1" && "$kit/bin/rattle" "${words[@]}")
+}
+
+# build_calls: for prove_library, in its folder $work.
+build_calls() {
+    over_libraries $library_crate build --crate-type staticlib --cpu x86-64 --toolchain "$work/toolchain" --backend llvm -o "$work/built" 2>&1 |
+        tee "$work/said"
+}
+
+# prove_library: has rattle prove and build the library for C, for every x86-64 processor, and keeps its module, as limpetnook.bc, and its
+# archive, as limpetnook.a. Where that fails there is no module, and an earlier one is gone.
+prove_library() (
+    set -o pipefail
+    kept=$modules/limpetnook
     work=$(mktemp -d) || return
     trap 'rm -rf "$work"' EXIT
-    chmod 711 "$work" # rt runs a program as nobody, by the loader of the kit
-    for crate in "${kept[@]}"; do
-        rm -f "$modules/$crate".*
-        made_from "$crate" >"$work/$crate.from" || return
-    done
-    make_kit "$work/kit" "$work/kept" && RATTLE_HOME=$work/kit "$@" && mkdir -p $modules || return
-    for crate in "${kept[@]}"; do
-        if [ ! -e "$work/kept/$crate.bc" ]; then
-            echo "rt has had no module of $crate compiled" >&2
-            return 1
-        fi
-        cp "$work/kept/$crate.words" $modules && install -m 644 "$work/kept/$crate.bc" $modules && cp "$work/$crate.from" $modules || return
-    done
+    rm -f "$kept".*
+    made_from $library_crate >"$work/from" && make_toolchain "$work/toolchain" && prove_below $library_crate || return
+    build_calls || {
+        # In a checkout where rt has kept work of its own, rt ci gives that back when it ends, in the place of what was built over here.
+        [ -n "${proved_since-}" ] && proved_since='' && prove_below $library_crate && build_calls || return
+    }
+    if [ ! -e "$work/toolchain/kept.bc" ]; then
+        echo "rattle has had no module of $library_crate compiled"
+        return 1
+    fi
+    mkdir -p $modules && cp "$work/said" "$kept.said" && cp "$work/toolchain/kept.words" "$kept.words" &&
+        install -m 644 "$work/toolchain/kept.bc" "$kept.bc" && install -m 644 "$work/built" "$kept.a" && cp "$work/from" "$kept.from"
 )
-
-# prove_library: has rt prove and build the library for C, and keeps its module and rt's own archive.
-prove_library() {
-    keeping limpetnook rt staticlib limpetnook && cp target/staticlib/liblimpetnook.a $modules/limpetnook.a
-}
 
 # The processors that there is a library for.
 targets=(x86_64-linux aarch64-linux armv7-linux riscv64-linux cortex-m33 cortex-m4)
@@ -98,7 +147,7 @@ target_words() {
 # and RISC-V the function sees to that, on x86-64 the caller. For -Os the compiler marks each function of C that it reads. No call has a
 # floating-point number, so where there is no operating system the library fits programs that pass those in either way.
 target_edits() {
-    [ "$1" != x86_64-linux ] || return 0 # as rt has it
+    [ "$1" != x86_64-linux ] || return 0 # as rattle has it
     grep '^target ' "$2" | sed 's/^\(target [a-z]*\).*/s|^\1 = .*|&|/'
     echo 's/ "target-cpu"="x86-64"//'
     echo '/^define internal /!s/^\(define [a-z ]*\)\(i8\|i16\) @/\1zeroext \2 @/'
@@ -134,25 +183,25 @@ shown() {
     "$@"
 }
 
-# compile_module CRATE TARGET FOLDER [WORD...]: has FOLDER/CRATE.o be the kept module compiled for that processor: as rt had it compiled,
+# compile_module TARGET FOLDER [WORD...]: has FOLDER/limpetnook.o be the kept module compiled for that processor: as rattle had it compiled,
 # but for what target_words says, and with the words more. Lines for sed in $edits change the module too. The commands are printed.
 compile_module() {
-    local crate=$1 target=$2 folder=$3 clang word words given=() as_text=(--no-default-config -Werror -S -emit-llvm)
-    shift 3
+    local target=$1 folder=$2 clang word words given=() as_text=(--no-default-config -Werror -S -emit-llvm)
+    shift 2
     clang=$(toolchain)/clang || return
     while IFS= read -r word; do
         case $word in
         --target=* | -march=* | -O? | -fPIC | --sysroot=* | -o | *.bc | *.o) ;;
         *) given+=("$word") ;;
         esac
-    done <"$modules/$crate.words"
+    done <$modules/limpetnook.words
     read -ra words < <(target_words "$target")
-    shown "$clang" --target=x86_64-unknown-linux-gnu "${as_text[@]}" -Xclang -disable-llvm-passes -x ir "$modules/$crate.bc" \
+    shown "$clang" --target=x86_64-unknown-linux-gnu "${as_text[@]}" -Xclang -disable-llvm-passes -x ir $modules/limpetnook.bc \
         -o "$folder/x86.ll" &&
         shown "$clang" "${words[@]}" "${as_text[@]}" -x c /dev/null -o "$folder/empty.ll" &&
         { target_edits "$target" "$folder/empty.ll" && echo "${edits-}"; } >"$folder/edits" &&
         shown cp "$folder/x86.ll" "$folder/module.ll" && shown sed -i -f "$folder/edits" "$folder/module.ll" && fits "$target" "$folder/module.ll" &&
-        shown "$clang" "${words[@]}" "${given[@]}" "$folder/module.ll" -o "$folder/$crate.o" "$@"
+        shown "$clang" "${words[@]}" "${given[@]}" "$folder/module.ll" -o "$folder/limpetnook.o" "$@"
 }
 
 # has_calls MODULE: whether the module has each call of the header, but for those that are left out, and nothing else to be linked.
@@ -161,14 +210,14 @@ has_calls() {
         <(sed -n '/^define internal/d; s/^define [^@]*@"\{0,1\}\([^"(]*\).*/\1/p' "$1" | sort)
 }
 
-# library_commands TARGET FOLDER: for write_library. rt's own library is taken as it is, and has to be what the kept module gives.
+# library_commands TARGET FOLDER: for write_library. rattle's own archive is taken as it is, and has to be what the kept module gives.
 library_commands() {
     local edits= ar
     ar=$(toolchain)/llvm-ar || return
     if [ -n "$without" ]; then # what only the calls of a text need goes with them
         edits='s/^define \(.*@limpet_\(to_text\|from_text\|text_to_new\|text_to_old\)(\)/define internal \1/'
     fi
-    compile_module limpetnook "$1" "$2" -fstack-usage && has_calls "$2/module.ll" || return
+    compile_module "$1" "$2" -fstack-usage && has_calls "$2/module.ll" || return
     if [ "$1$without" = x86_64-linux ]; then
         "$ar" p $modules/limpetnook.a | cmp "$2/limpetnook.o" - && shown cp $modules/limpetnook.a "$2/liblimpetnook.a"
     else
@@ -197,34 +246,21 @@ write_library() {
 
 # library_is_proved: whether nothing has changed since the module of the library was kept.
 library_is_proved() {
-    has_module limpetnook && [ -e $modules/limpetnook.a ]
+    [ -e $modules/limpetnook.bc ] && made_from $library_crate | cmp -s $modules/limpetnook.from -
 }
 
-# program_is_old CRATE: whether there is no program of the crate, or an older one. Where $native is not x86-64, which rt builds for, there is
-# one more of the same module, target/native/CRATE.
-program_is_old() {
-    is_old "target/bin/$1" "$1" || { [ $native != x86_64-linux ] && [ ! "target/native/$1" -nt "target/bin/$1" ]; }
-}
-
-# native_programs CRATE...: where $native is not x86-64, has target/native/CRATE be the kept module of each program, compiled for it and
-# linked with the C library of this machine.
-native_programs() {
-    local crate folder
-    [ $native != x86_64-linux ] || return 0
-    need gcc libc6-dev || return
-    for crate; do
-        folder=target/native/$crate.made
-        mkdir -p "$folder"
-        compile_module "$crate" $native "$folder" && shown gcc "$folder/$crate.o" -o "target/native/$crate" || return
-    done
-}
-
-# prove_program CRATE: has rt prove, build and run the program. Where native_programs is to build one more, the module is kept.
+# prove_program CRATE: has rt prove, build and run the program, which has to print what its file stdout has. Else there is none.
 prove_program() {
-    if [ $native = x86_64-linux ]; then
-        rt check "$1"
-    else
-        rm -f "target/stamp/$1" # else rt passes over a program that it has proved, and compiles no module
-        keeping "$1" rt check "$1"
+    local printed status=0
+    printed=$(mktemp) || return
+    if ! (cd "crates/$1" && rt run <stdin) >"$printed"; then
+        cat "$printed"
+        status=1
+    elif ! cmp "$printed" "crates/$1/stdout"; then
+        echo "error: the program does not print what crates/$1/stdout has"
+        status=1
     fi
+    rm -f "$printed"
+    ((status == 0)) || rm -f "crates/$1/out/$1"
+    return $status
 }
