@@ -7,7 +7,8 @@ followed from its entry, along all ways at once, through the functions of the sa
 and byte of the stack it is kept what its value comes from:
 
     an address     a fixed distance from the stack pointer at the entry; or some distance from a pointer argument, fixed or by the way
-                   that was taken, which the jumps decide
+                   that was taken, which the jumps decide, or by that pointer itself: where it is null, as a caller may pass for no
+                   bytes, an exported function has another address in its place
     a number       arguments, and bytes read through pointers, that it was worked out from; none of them for a constant
 
 Prints a line for each conditional jump, with the arguments that decide it. Refused, each with a line that starts with the word:
@@ -107,6 +108,13 @@ def told(names):
 def moved(address, by):
     """The address so many bytes further on. Where it is by the way taken, so it is there."""
     return (*address[:2], None if address[2] is None else address[2] + by)
+
+
+def further(address, by):
+    """The address by a number further on that the pointer itself decides, and nothing else does; None where it is not so."""
+    if address[0] == "address" and address[1] != "stack" and by == number("?the address " + address[1]):
+        return (*address[:2], None)
+    return None
 
 
 class State:
@@ -259,6 +267,8 @@ class Walk:
         parts = [state.read(register[1:]) for register in match.group(2, 3) if register]
         if len(parts) == 1 and match[2] and parts[0][0] == "address":
             return moved(parts[0], displacement)
+        if len(parts) == 2 and match[4] == "1" and (found := further(*parts) or further(*reversed(parts))):
+            return found
         return combined(*parts)
 
     def at(self, function, place, text, state):
@@ -413,6 +423,10 @@ class Walk:
             by = int(first[1:], 16)
             by -= 2 ** 64 if by >= 2 ** 63 else 0
             return moved(value, by if name == "add" else -by)
+        if name == "add" and size == 8 and len(args) == 2:
+            other = self.get(function, place, first, size, state)
+            if found := further(value, other) or further(other, value):
+                return found
         return combined(value, *(self.get(function, place, arg, size, state) for arg in args[:-1]))
 
     def copy(self, state):
