@@ -189,7 +189,7 @@ def errors(output):
 @functools.lru_cache(maxsize=None)
 def listed():
     """The crates of crates.txt, lowest first, each with the crates that it cites."""
-    return dict(re.findall(r"^(\w+):(.*)$", read(ROOT, "crates.txt"), re.M))
+    return dict(re.findall(r"^(\w+)[^:\n]*:(.*)$", read(ROOT, "crates.txt"), re.M))
 
 
 def cited(crate):
