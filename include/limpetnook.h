@@ -24,9 +24,9 @@
  * docs/PROCESSORS.md has the same of the others:
  *
  *                     code    constants   stack of a call      C functions needed
- *   liblimpetnook.a   75000   1250        LIMPET_TEXT_STACK    memcpy, memset
- *   limpet_aes128     1531    0           LIMPET_AES128_STACK  none
- *   limpet_code       2640    1008        LIMPET_CODE_STACK    memcpy
+ *   liblimpetnook.a   82500   1250        LIMPET_TEXT_STACK    memcpy, memset
+ *   limpet_aes128     1547    0           LIMPET_AES128_STACK  none
+ *   limpet_code       2800    1008        LIMPET_CODE_STACK    memcpy
  *
  * The other two rows are each for a program that calls that function alone and is
  * linked with --gc-sections: each function is in a section of its own. A program
@@ -68,9 +68,9 @@ uint32_t limpet_version(void);
  * for a text and the two that convert one, of limpet_aes128, and of limpet_code.
  */
 #ifdef __x86_64__
-#define LIMPET_CARD_STACK 4096
+#define LIMPET_CARD_STACK 6144
 #else
-#define LIMPET_CARD_STACK 4608
+#define LIMPET_CARD_STACK 6400
 #endif
 #define LIMPET_TEXT_STACK 18432
 #define LIMPET_AES128_STACK 512

@@ -2,7 +2,7 @@
 ENTRY(reset)
 flash_size = DEFINED(flash_size) ? flash_size : 64K;
 memory_size = DEFINED(memory_size) ? memory_size : 16K;
-stack_size = DEFINED(stack_size) ? stack_size : 4K + 768; /* for a call, and for what calls it */
+stack_size = DEFINED(stack_size) ? stack_size : 6K + 512; /* for a call, and for what calls it */
 
 MEMORY
 {
