@@ -24,9 +24,9 @@
  * docs/PROCESSORS.md has the same of the others:
  *
  *                     code    constants   stack of a call      C functions needed
- *   liblimpetnook.a   82500   1250        LIMPET_TEXT_STACK    memcpy, memset
+ *   liblimpetnook.a   76500   1250        LIMPET_TEXT_STACK    memcpy, memset
  *   limpet_aes128     1547    0           LIMPET_AES128_STACK  none
- *   limpet_code       2800    1008        LIMPET_CODE_STACK    memcpy
+ *   limpet_code       2850    1008        LIMPET_CODE_STACK    memcpy
  *
  * The other two rows are each for a program that calls that function alone and is
  * linked with --gc-sections: each function is in a section of its own. A program

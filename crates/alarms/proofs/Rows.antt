@@ -2,7 +2,7 @@
 -- Assumes nothing.
 use Prim.Native.Nat.{ℕ, zero, suc, ◌+◌, ◌/◌, ◌%◌, ◌≤◌, ◌<◌}
 use mathlib.Core.List.{List, [], ◌∷◌, ◌++◌}
-use mathlib.Core.Path.{◌≡◌, refl, sym, ap, ap₂, ◌∙◌}
+use mathlib.Core.Path.{◌≡◌, refl, sym, ap₂}
 use mathlib.Core.Logic.{by_cases}
 use native.Mathlib.Decide.{dec_lt}
 use native.Mathlib.Numerals.{add-one}
@@ -51,9 +51,6 @@ draw-inside (b ∷ bs) p h = draw-inside bs (stroke b p) (stroke-inside b p h)
 
 pub draws-inside : (w out left : List ℕ) (r : ℕ) → Draws w out 0 r left → r ≤ length left
 draws-inside w out left r d = let h : (draw w (page out 0)).at ≤ length (draw w (page out 0)).out = draw-inside w (page out 0) (omega arith) in rw (sym d) at h
-
-pub rows_all : (count minutes : ℕ → ℕ) (i : ℕ) (p q : Page) → i ≤ 192 → 192 ≤ i → q ≡ draw (rows count minutes i) p → q ≡ draw (rows count minutes 192) p
-rows_all count minutes i p q h k e = let s : i ≡ 192 = omega arith in e ∙ ap (λ (n : ℕ). draw (rows count minutes n) p) s
 
 -- rows go by what stands at each place
 pub rows_same : (c m d n : ℕ → ℕ) (k : ℕ) → ((i : ℕ) → i < k → (c i ≡ d i) × (m i ≡ n i)) → rows c m k ≡ rows d n k

@@ -11,61 +11,41 @@ use sums::{all, no_batch, no_totals};
 pub fn start() -> Feed
     ensures { result ≡ start }
 {
-    let batch = no_batch();
-    let totals = no_totals();
-    let scan = Scan {
-        at: 0,
-        word: 0,
-        lines: 0,
-        refusal: 0,
-    };
     Feed {
-        scan,
+        scan: Scan {
+            at: 0,
+            word: 0,
+            lines: 0,
+            refusal: 0,
+        },
         held: 0,
-        batch,
-        totals,
+        batch: no_batch(),
+        totals: no_totals(),
     }
 }
 
 // The next piece of the text.
-pub fn fed(feed: Feed, piece: &[u8]) -> Feed
+pub fn fed(mut feed: Feed, piece: &[u8]) -> Feed
     ensures { result ≡ fed_all feed piece.now }
 {
-    let mut scan = feed.scan;
-    let mut held = feed.held;
-    let mut batch = feed.batch;
-    let mut totals = feed.totals;
-    let mut i: usize = 0;
-    while i < piece.len() {
-        let next = scanned(scan, piece[i]);
-        scan = next;
-        i += 1;
-        if scan.at != DONE {
+    for &b in piece {
+        feed.scan = scanned(feed.scan, b);
+        if feed.scan.at != DONE {
             continue;
         }
-        let a = alarm_of(scan.word);
-        if held < 1000 {
-            batch[held] = a;
-            held += 1;
-            continue;
+        if feed.held >= 1000 {
+            feed.totals = all(feed.batch, feed.totals).totals;
+            feed.batch = no_batch();
+            feed.held = 0;
         }
-        let before = all(batch, totals);
-        let sums = before.totals;
-        totals = sums;
-        let none = no_batch();
-        batch = none;
-        batch[0] = a;
-        held = 1;
+        feed.batch[feed.held] = alarm_of(feed.scan.word);
+        feed.held += 1;
     }
-    Feed {
-        scan,
-        held,
-        batch,
-        totals,
-    }
+    feed
 }
 
 // The text ends; a last line needs no newline.
+#[tactic(auto, unfolding(crate::specs::Feed::closed))]
 pub fn closed(feed: Feed) -> Feed
     ensures { result ≡ closed feed }
 {

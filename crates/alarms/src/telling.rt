@@ -26,20 +26,17 @@ fn put_row(out: &mut [u8], at: usize, i: u32, count: u32, minutes: u32) -> usize
 fn put_rows(out: &mut [u8], at: usize, t: Totals) -> usize
     ensures { Draws (rows (λ i. get_or t.counts i 0) (λ i. get_or t.minutes i 0) 192) out.old at result out.new }
 {
-    let mut q = at;
-    let mut i: usize = 0;
-    while i < 192 {
-        let to = put_row(out, q, i as u32, t.counts[i], t.minutes[i]);
-        q = to;
-        i += 1;
+    let mut end = at;
+    for i in 0..192 {
+        end = put_row(out, end, i as u32, t.counts[i], t.minutes[i]);
     }
-    q
+    end
 }
 
 fn put_refusal(out: &mut [u8], at: usize, refusal: u8, number: u32) -> usize
     ensures { Draws (refused refusal number) out.old at result out.new }
 {
-    let a = number_field(out, at, refusal as u32, TAB);
+    let a = number_field(out, at, u32::from(refusal), TAB);
     number_field(out, a, number, NEWLINE)
 }
 
@@ -59,8 +56,5 @@ pub fn told(feed: Feed, out: &mut [u8]) -> usize
     if refusal != 0 {
         return put_refusal(out, 0, refusal, last.scan.lines);
     }
-    let batch = last.batch;
-    let whole = all(batch, last.totals);
-    let t = whole.totals;
-    put_table(out, 0, t)
+    put_table(out, 0, all(last.batch, last.totals).totals)
 }

@@ -20,6 +20,7 @@ use Rattle.rules.proofs.Checks.{passed, passing}
 use Rattle.card.specs.declared.Heard.{Heard}
 use Rattle.rules.specs.Tries.{tried}
 use Rattle.card.specs.Carried.{with_key_left}
+use Rattle.card.specs.Checks.{checked}
 use Rattle.card.specs.Coded.{code_given, heard_so, Hears}
 use Rattle.card.proofs.Sparing.{same_left}
 
@@ -45,11 +46,11 @@ unfolding or_else
 all-good d p q r = rw (p, q, r)
 
 module _ (front : ℕ) (c : Card) (k : Command) (r : Heard) where
-  pub no_code : (k.cla ≡ 0x04 → ⊥) → r ≡ heard_so front (credential c 3).tries.left → Hears front c k r
+  pub no_code : (k.cla ≡ 0x04 → ⊥) → r ≡ heard_so (checked front) (credential c 3).tries.left → Hears front c k r
   unfolding credentials_after presents_code code_sw
   no_code n e = record {
     left_is = ap (λ (x : Heard). with_key_left c x.left) e ∙ same_left c ∙ rw (ne_eqb k.cla 0x04 n);
-    sw-is = ap (λ (x : Heard). x.sw) e ∙ rw (ne_eqb k.cla 0x04 n) (last-good front);
+    verdict-is = ap (λ (x : Heard). x.verdict) e ∙ rw (ne_eqb k.cla 0x04 n) (ap checked (last-good front));
   }
 
   module _ (e : k.cla ≡ 0x04) (good : or_else (frame_sw k) (class_sw k) ≡ 0x9000) where
@@ -67,13 +68,13 @@ module _ (front : ℕ) (c : Card) (k : Command) (r : Heard) where
     code_is = ap (λ (b : Bool). cond b (first (tries_sw (login transport c) ∷ challenge_sw (challenge c) ∷ unless (agrees (logins c) (challenge c) k) 0x6988 ∷ [])) 0x9000) (eq-eqb k.cla 0x04 e)
 
     pub refused-code : (sw : ℕ) → sw ≡ or_else front (or_else (tries_sw (login transport c)) (challenge_sw (challenge c))) → (sw ≡ 0x9000 → ⊥)
-        → r ≡ heard_so sw (credential c 3).tries.left → Hears front c k r
+        → r ≡ heard_so (checked sw) (credential c 3).tries.left → Hears front c k r
     unfolding credentials_after
     refused-code sw is n a =
         let m : or_else front (or_else (tries_sw (login transport c)) (challenge_sw (challenge c))) ≡ 0x9000 → ⊥ = λ z. n (is ∙ z) in
         record {
           left_is = ap (λ (x : Heard). with_key_left c x.left) a ∙ same_left c ∙ rw (test-is, ne_eqb _ 0x9000 m);
-          sw-is = ap (λ (x : Heard). x.sw) a ∙ is ∙ rw code_is (refused-early front _ _ _ m);
+          verdict-is = ap (λ (x : Heard). x.verdict) a ∙ rw code_is (ap checked (is ∙ refused-early front _ _ _ m));
         }
 
     -- the limit stays
@@ -83,7 +84,7 @@ module _ (front : ℕ) (c : Card) (k : Command) (r : Heard) where
 
     pub presented-code : value_of (credential c 3) ≡ (credential c 3).value → (sw : ℕ) → sw ≡ or_else front (or_else (tries_sw (login transport c)) (challenge_sw (challenge c))) → sw ≡ 0x9000
         → (right : Bool) → right ≡ code_given c k.covered k.code
-        → r ≡ heard_so (unless right 0x6988) (tried (credential c 3).tries right).left → Hears front c k r
+        → r ≡ heard_so (checked (unless right 0x6988)) (tried (credential c 3).tries right).left → Hears front c k r
     unfolding credentials_after
     presented-code whole sw is n right given a =
         let f : right ≡ agrees (logins c) (challenge c) k = given ∙ ap (λ (v : List ℕ). same (code (mac v (filled (challenge c)) k.covered)) k.code) (sym whole) in
@@ -91,5 +92,5 @@ module _ (front : ℕ) (c : Card) (k : Command) (r : Heard) where
         let w = passed (front ∷ tries_sw (login transport c) ∷ challenge_sw (challenge c) ∷ []) g in
         record {
           left_is = ap (λ (x : Heard). with_key_left c x.left) a ∙ key-after right ∙ rw (test-is, eq-eqb _ 0x9000 g, f);
-          sw-is = ap (λ (x : Heard). x.sw) a ∙ ap (λ (b : Bool). unless b 0x6988) f ∙ rw code_is (all-good _ w.0 w.1.0 w.1.1.0);
+          verdict-is = ap (λ (x : Heard). x.verdict) a ∙ rw code_is (ap checked (ap (λ (b : Bool). unless b 0x6988) f ∙ all-good _ w.0 w.1.0 w.1.1.0));
         }

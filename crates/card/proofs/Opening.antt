@@ -1,6 +1,7 @@
 -- P, case and code passed or refused, and the command behind them with the tries that the code leaves.
 -- Assumes nothing.
 use Prim.Native.Nat.{ℕ, ◌+◌, ◌-◌}
+use Rattle.std.proofs.Common.{◌≢◌}
 use mathlib.Core.Bool.{true, false, and-false}
 use mathlib.Core.List.{List, [], ◌∷◌}
 use mathlib.Core.Path.{◌≡◌, refl, sym, ap, ap₂, ◌∙◌}
@@ -31,6 +32,7 @@ use Rattle.card.specs.declared.Header.{Header}
 use Rattle.card.specs.declared.Heard.{Heard}
 use Rattle.card.specs.Head.{head_of, coded_of, command_of}
 use Rattle.card.specs.Carried.{with_key_left}
+use Rattle.card.specs.Checks.{checked}
 use Rattle.card.specs.Coded.{takes_code, front_of, opened_by, rest_of, done_by, front, opened, rest, done, heard_so, Hears, Opens}
 use Rattle.card.proofs.Carrying.{stops}
 use Rattle.card.proofs.Sparing.{same_left, keyed, did-keyed, ruled-keyed, SparesBy, spares, touched-keyed}
@@ -52,6 +54,24 @@ module _ (a b own : ℕ) where
 
 -- ---- the code heard, by the command's name
 -- what a code covers is nothing to P and case
+-- the other commands have no checks before a code
+pub no-front : (k : Command) (i : Ins) → i ≢ ReadBinary → i ≢ UpdateBinary → i ≢ ReadRecord → i ≢ UpdateRecord → i ≢ AppendRecord → first (front i k) ≡ 0x9000
+unfolding front rule
+no-front k Select a b c d e = refl
+no-front k ReadBinary a b c d e = absurd (a refl)
+no-front k UpdateBinary a b c d e = absurd (b refl)
+no-front k ReadRecord a b c d e = absurd (c refl)
+no-front k UpdateRecord a b c d e = absurd (d refl)
+no-front k AppendRecord a b c d e = absurd (e refl)
+no-front k Verify a b c d e = refl
+no-front k Authenticate a b c d e = refl
+no-front k ChangePin a b c d e = refl
+no-front k ReloadPin a b c d e = refl
+no-front k CreateFile a b c d e = refl
+no-front k GetChallenge a b c d e = refl
+no-front k GetResponse a b c d e = refl
+no-front k Unlisted a b c d e = refl
+
 module _ (h : Header) (g x v : List ℕ) where
   pub front-covered : (i : Ins) → first (front i (coded_of h g x [])) ≡ first (front i (coded_of h g x v))
   unfolding front rule
@@ -72,32 +92,42 @@ module _ (h : Header) (g x v : List ℕ) where
 
   module _ (c : Card) (r : Heard) where
     heard-by : (sw : ℕ) (q : Rule) → takes_code q ≡ true → sw ≡ first (front_of q (coded_of h g x v)) → Hears sw c (coded_of h [] x v) r
-        → (with_key_left c r.left ≡ kept_by q c (coded_of h g x v)) × (r.sw ≡ opened_by q c (coded_of h g x v))
+        → (with_key_left c r.left ≡ kept_by q c (coded_of h g x v)) × (r.verdict ≡ checked (opened_by q c (coded_of h g x v)))
     unfolding credentials_after presents_code code_sw
     heard-by sw (of_files t d) y e w = clash false y refl
     heard-by sw (of_contents f t d) y e w =
-        (w.left_is ∙ ap (λ (z : ℕ). after_code (z ∷ []) c (coded_of h [] x v)) e, w.sw-is ∙ ap (λ (z : ℕ). or_else z (code_sw (logins c) (challenge c) (coded_of h [] x v))) e)
+        (w.left_is ∙ ap (λ (z : ℕ). after_code (z ∷ []) c (coded_of h [] x v)) e, w.verdict-is ∙ ap (λ (z : ℕ). checked (or_else z (code_sw (logins c) (challenge c) (coded_of h [] x v)))) e)
     heard-by sw (of_credentials t d) y e w = clash false y refl
 
-    plain_by : (q : Rule) → takes_code q ≡ false → r ≡ heard_so 0x9000 (credential c 3).tries.left
-        → (with_key_left c r.left ≡ kept_by q c (coded_of h g x v)) × (r.sw ≡ opened_by q c (coded_of h g x v))
-    plain_by (of_files t d) y a = (ap (λ (z : Heard). with_key_left c z.left) a ∙ same_left c, ap (λ (z : Heard). z.sw) a)
+    plain_by : (q : Rule) → takes_code q ≡ false → r ≡ heard_so (checked 0x9000) (credential c 3).tries.left
+        → (with_key_left c r.left ≡ kept_by q c (coded_of h g x v)) × (r.verdict ≡ checked (opened_by q c (coded_of h g x v)))
+    plain_by (of_files t d) y a = (ap (λ (z : Heard). with_key_left c z.left) a ∙ same_left c, ap (λ (z : Heard). z.verdict) a)
     plain_by (of_contents f t d) y a = clash true refl y
-    plain_by (of_credentials t d) y a = (ap (λ (z : Heard). with_key_left c z.left) a ∙ same_left c, ap (λ (z : Heard). z.sw) a)
+    plain_by (of_credentials t d) y a = (ap (λ (z : Heard). with_key_left c z.left) a ∙ same_left c, ap (λ (z : Heard). z.verdict) a)
 
     module _ (i : Ins) where
       pub opens-heard : (sw : ℕ) → sw ≡ first (front i (coded_of h g x [])) → takes_code (rule i) ≡ true → Hears sw c (coded_of h [] x v) r → Opens i c (coded_of h g x v) r
       unfolding kept opened front
       opens-heard sw e y w =
           let p = heard-by sw (rule i) y (e ∙ front-covered i) w in
-          record { left_is = p.0; sw-is = p.1; plain = λ z. clash (takes_code (rule i)) y z }
+          record { left_is = p.0; verdict-is = p.1; plain = λ z. clash (takes_code (rule i)) y z }
 
-      pub opens_plain : takes_code (rule i) ≡ false → r ≡ heard_so 0x9000 (credential c 3).tries.left → Opens i c (coded_of h g x v) r
+      pub opens_plain : takes_code (rule i) ≡ false → r ≡ heard_so (checked 0x9000) (credential c 3).tries.left → Opens i c (coded_of h g x v) r
       unfolding kept opened
-      opens_plain y a = let p = plain_by (rule i) y a in record { left_is = p.0; sw-is = p.1; plain = λ z. ap (λ (z : Heard). z.left) a }
+      opens_plain y a = let p = plain_by (rule i) y a in record { left_is = p.0; verdict-is = p.1; plain = λ z. ap (λ (z : Heard). z.left) a }
 
 -- ---- the command behind them
 module _ (c : Card) (k : Command) where
+  plain-opened-by : (q : Rule) → takes_code q ≡ false → opened_by q c k ≡ 0x9000
+  plain-opened-by (of_files t d) y = refl
+  plain-opened-by (of_contents f t d) y = clash true refl y
+  plain-opened-by (of_credentials t d) y = refl
+
+  -- of a command that takes no code, nothing is asked before its own checks
+  pub plain-opened : (i : Ins) → takes_code (rule i) ≡ false → opened i c k ≡ 0x9000
+  unfolding opened
+  plain-opened i y = plain-opened-by (rule i) y
+
   opened-by : (q : Rule) (l : Located) → opened_by q c k ≡ 0x9000 → first (rest_of q c l k) ≡ first (checks_of q c l k)
   opened-by (of_files t d) l h = refl
   opened-by (of_contents f t d) l h = rest-on (t c l k)
@@ -195,7 +225,7 @@ module _ (i : Ins) (c : Card) (area : List ℕ) (h : Header) (g x v random : Lis
   by_code = ruled (first (rest i c (record_found c area (command_of h [])) (command_of h g))) c (done i c (record_found c area (command_of h [])) (command_of h g) random)
 
   -- passed: the command itself
-  opened-on : heard.sw ≡ 0x9000
+  opened-on : opened i c (coded_of h g x v) ≡ 0x9000
       → keyed heard.left by_code
       ≡ ruled (first (checks i c (record_found c area (coded_of h g x v)) (coded_of h g x v))) (kept i c (coded_of h g x v)) (effect_of i c (record_found c area (coded_of h g x v)) (coded_of h g x v) random)
   unfolding opened checks rest done effect_of kept
@@ -209,20 +239,20 @@ module _ (i : Ins) (c : Card) (area : List ℕ) (h : Header) (g x v random : Lis
       ∙ ap₂ (λ (s : ℕ) (y : Card). ruled s y (keyed n (done i c l k random))) (passes e) w.left_is
       ∙ ap (ruled (first (checks i c l k)) (kept i c k)) does-all
     where
-      passes : heard.sw ≡ 0x9000 → first (rest i c (record_found c area (coded_of h g x v)) (coded_of h g x v)) ≡ first (checks i c (record_found c area (coded_of h g x v)) (coded_of h g x v))
-      passes e = opened-by c (coded_of h g x v) (rule i) (record_found c area (coded_of h g x v)) (sym w.sw-is ∙ e)
+      passes : opened_by (rule i) c (coded_of h g x v) ≡ 0x9000 → first (rest i c (record_found c area (coded_of h g x v)) (coded_of h g x v)) ≡ first (checks i c (record_found c area (coded_of h g x v)) (coded_of h g x v))
+      passes e = opened-by c (coded_of h g x v) (rule i) (record_found c area (coded_of h g x v)) e
 
       does-all : keyed heard.left (done i c (record_found c area (coded_of h g x v)) (coded_of h g x v) random) ≡ effect_of i c (record_found c area (coded_of h g x v)) (coded_of h g x v) random
       does-all = keyed-by c (coded_of h g x v) (rule i) (record_found c area (coded_of h g x v)) random heard.left w.left_is w.plain (spares i (coded_of h g x v) c)
 
   -- refused: the card that the code leaves
-  opened-off : (heard.sw ≡ 0x9000 → ⊥)
-      → answers heard.sw (with_key_left c heard.left)
+  opened-off : (sw : ℕ) → sw ≡ opened i c (coded_of h g x v) → (sw ≡ 0x9000 → ⊥)
+      → answers sw (with_key_left c heard.left)
       ≡ ruled (first (checks i c (record_found c area (coded_of h g x v)) (coded_of h g x v))) (kept i c (coded_of h g x v)) (effect_of i c (record_found c area (coded_of h g x v)) (coded_of h g x v) random)
   unfolding opened checks
-  opened-off n =
-      let e : heard.sw ≡ first (checks i c (record_found c area (coded_of h g x v)) (coded_of h g x v)) =
-      w.sw-is ∙ closed-by c (coded_of h g x v) (rule i) (record_found c area (coded_of h g x v)) (λ z. n (w.sw-is ∙ z)) in
+  opened-off sw q n =
+      let e : sw ≡ first (checks i c (record_found c area (coded_of h g x v)) (coded_of h g x v)) =
+      q ∙ closed-by c (coded_of h g x v) (rule i) (record_found c area (coded_of h g x v)) (λ z. n (q ∙ z)) in
       ap₂ answers e w.left_is ∙ sym (stops _ (kept i c (coded_of h g x v)) (effect_of i c (record_found c area (coded_of h g x v)) (coded_of h g x v) random) (λ z. n (e ∙ z)))
 
   -- the same of a command's bytes
@@ -230,11 +260,11 @@ module _ (i : Ins) (c : Card) (area : List ℕ) (h : Header) (g x v random : Lis
     abbrev by_rule : Command → Effect
     by_rule k = ruled (first (checks i c (record_found c area k) k)) (kept i c k) (effect_of i c (record_found c area k) k random)
 
-    pub coded-on : heard.sw ≡ 0x9000 → keyed heard.left by_code ≡ by_rule (framed cmd)
+    pub coded-on : opened i c (coded_of h g x v) ≡ 0x9000 → keyed heard.left by_code ≡ by_rule (framed cmd)
     coded-on e = opened-on e ∙ ap by_rule p
 
-    pub coded-off : (heard.sw ≡ 0x9000 → ⊥) → answers heard.sw (with_key_left c heard.left) ≡ by_rule (framed cmd)
-    coded-off n = opened-off n ∙ ap by_rule p
+    pub coded-off : (sw : ℕ) → sw ≡ opened i c (coded_of h g x v) → (sw ≡ 0x9000 → ⊥) → answers sw (with_key_left c heard.left) ≡ by_rule (framed cmd)
+    coded-off sw q n = opened-off sw q n ∙ ap by_rule p
 
 -- ---- the parts of a command are the command
 pub parts_are : (cmd : List ℕ) (h : Header) (g x v : List ℕ) → h ≡ head_of cmd → g ≡ take (lc_before cmd) (drop 5 cmd)

@@ -10,9 +10,8 @@ use lib.Dec.{eqb, leb, ltb}
 use lib.ListN.{length, take, drop, get_or, set, length-take}
 use borrow.Author.Tests.{leb-true, ltb-true, eqb-true}
 use Rattle.files.specs.declared.File.{File}
-use Rattle.files.specs.declared.Directory.{Directory}
 use Rattle.files.specs.Part.{over, zeros}
-use Rattle.files.specs.State.{blank_file, blank_folder, with_files, with_folders}
+use Rattle.files.specs.State.{blank_file, with_files}
 use Rattle.files.proofs.Checks.{clash, both}
 use Rattle.rules.specs.declared.Card.{Card}
 use Rattle.rules.specs.Words.{filled}
@@ -83,16 +82,5 @@ module _ {A : Type 0} (blank : A) where
   trim-all (x ∷ xs) zero l = absurd (omega arith)
   trim-all (x ∷ xs) (suc i) l = ap (λ (ys : List A). x ∷ ys) (trim-all xs i (omega arith))
 
-  trim_end : (xs ys : List A) (i n : ℕ) → length ys ≤ i → trim blank xs i ≡ trim blank ys n → xs ≡ trim blank ys n
-  trim_end xs ys i n l e = sym (trim-all xs i (omega (arith, sym (trim-length xs i) ∙ ap length e ∙ trim-length ys n))) ∙ e
-
-module _ (d next : Directory) (i : ℕ) where
-  pub files-done : length d.files ≡ 16 → 16 ≤ i → trim blank_file next.files i ≡ trim blank_file d.files d.count
-      → with_files next [] ≡ with_files d [] → next ≡ with_files d (trim blank_file d.files d.count)
-  files-done s l e q =
-      ap (λ (x : Directory). with_files x next.files) q ∙ ap (with_files d) (trim_end blank_file next.files d.files i d.count (omega arith) e)
-
-  pub folders-done : length d.folders ≡ 4 → 4 ≤ i → trim blank_folder next.folders i ≡ trim blank_folder d.folders d.number
-      → with_folders next [] ≡ with_folders d [] → next ≡ with_folders d (trim blank_folder d.folders d.number)
-  folders-done s l e q =
-      ap (λ (x : Directory). with_folders x next.folders) q ∙ ap (with_folders d) (trim_end blank_folder next.folders d.folders i d.number (omega arith) e)
+  pub trim-end : (xs ys : List A) (i n : ℕ) → length ys ≤ i → trim blank xs i ≡ trim blank ys n → xs ≡ trim blank ys n
+  trim-end xs ys i n l e = sym (trim-all xs i (omega (arith, sym (trim-length xs i) ∙ ap length e ∙ trim-length ys n))) ∙ e

@@ -1,82 +1,99 @@
 // Codes on the bus (R-9): the five commands that may have one, P and case before it, and its check.
-ghost use Rattle.std.specs.Prelude.{◌≡◌, ◌&&◌, []};
+ghost use Rattle.std.specs.Prelude.{◌≡◌, ◌&&◌, [], ◌∷◌};
 ghost use Rattle.rules.specs.declared.Card.{Card};
 ghost use Rattle.rules.specs.Words.{or_else, first};
-ghost use Rattle.rules.specs.State.{value_of, credential, logins, challenge};
+ghost use Rattle.rules.specs.State.{transport, value_of, credential, login, logins, challenge_in, challenge};
 ghost use Rattle.rules.specs.Frame.{frame_sw, class_sw};
+ghost use Rattle.rules.specs.Pins.{tries_sw};
+ghost use Rattle.rules.specs.Device.{challenge_sw};
 ghost use Rattle.rules.specs.List.{rule};
 ghost use Rattle.rules.specs.Code.{presents_code};
+ghost use Rattle.card.specs.Checks.{checked};
 ghost use Rattle.card.specs.Head.{coded_of, command_of};
+ghost use Rattle.card.specs.Credentials.{only_tries};
 ghost use Rattle.card.specs.Parts.{code_under};
-ghost use Rattle.card.specs.Coded.{takes_code, front, code_given, heard_so, Hears};
+ghost use Rattle.card.specs.Coded.{takes_code, front, code_given, Hears};
 
-use crate::binary::binary_p_sw;
-use crate::device::{challenge_block, challenge_sw};
-use crate::frame::{WITH_CODE, class_sw, frame_sw, read_case_sw, write_case_sw};
-use crate::pins::{same, tried, tries_sw};
-use crate::record::{append_p_sw, record_p_sw};
+use crate::binary::check_binary_p;
+use crate::device::{challenge_block, check_challenge};
+use crate::frame::{WITH_CODE, check_class, check_frame, check_read_case, check_write_case};
+use crate::pins::{check_tries, same, tried};
+use crate::record::{check_append_p, check_record_p};
 use crate::state::tries_at;
-use crate::words::{or_else, unless};
-use crate::{Header, Heard};
+use crate::words::unless;
+use crate::{Header, Heard, Refused};
 use codes::mac;
-use files::and_or::both;
-use rules::{Card, Credential, Ins, Session, TRANSPORT};
+use rules::{Card, Credential, Ins, Session, TRANSPORT, Tries};
 
 // Those that read, update and append.
+#[tactic(auto, unfolding(rules::specs::List::rule))]
 pub fn takes_code(ins: Ins) -> bool
     ensures { result ≡ takes_code (rule ins) }
 {
-    match ins {
-        Ins::Select => false,
-        Ins::ReadBinary => true,
-        Ins::UpdateBinary => true,
-        Ins::ReadRecord => true,
-        Ins::UpdateRecord => true,
-        Ins::AppendRecord => true,
-        Ins::Verify => false,
-        Ins::Authenticate => false,
-        Ins::ChangePin => false,
-        Ins::ReloadPin => false,
-        Ins::CreateFile => false,
-        Ins::GetChallenge => false,
-        Ins::GetResponse => false,
-        Ins::Unlisted => false,
-    }
+    matches!(
+        ins,
+        Ins::ReadBinary
+            | Ins::UpdateBinary
+            | Ins::ReadRecord
+            | Ins::UpdateRecord
+            | Ins::AppendRecord
+    )
 }
 
 // P and case before the code; the others have their own checks in their own place.
-pub fn front_sw(ins: Ins, h: Header, given: &[u8], code: &[u8]) -> u16
-    ensures { result ≡ first (front ins (coded_of h given.now code.now [])) }
+#[tactic(auto, unfolding(crate::specs::Coded::front, rules::specs::List::rule))]
+pub fn check_front(ins: Ins, h: Header, given: &[u8], code: &[u8]) -> Result<(), Refused>
+    ensures { result ≡ checked (first (front ins (coded_of h given.now code.now []))) }
 {
     match ins {
-        Ins::Select => 0x9000,
-        Ins::ReadBinary => or_else(binary_p_sw(h), read_case_sw(h, given, code)),
-        Ins::UpdateBinary => or_else(binary_p_sw(h), write_case_sw(h, given)),
-        Ins::ReadRecord => or_else(record_p_sw(h), read_case_sw(h, given, code)),
-        Ins::UpdateRecord => or_else(record_p_sw(h), write_case_sw(h, given)),
-        Ins::AppendRecord => or_else(append_p_sw(h), write_case_sw(h, given)),
-        Ins::Verify => 0x9000,
-        Ins::Authenticate => 0x9000,
-        Ins::ChangePin => 0x9000,
-        Ins::ReloadPin => 0x9000,
-        Ins::CreateFile => 0x9000,
-        Ins::GetChallenge => 0x9000,
-        Ins::GetResponse => 0x9000,
-        Ins::Unlisted => 0x9000,
+        Ins::ReadBinary => {
+            check_binary_p(h)?;
+            check_read_case(h, given, code)
+        }
+        Ins::UpdateBinary => {
+            check_binary_p(h)?;
+            check_write_case(h, given)
+        }
+        Ins::ReadRecord => {
+            check_record_p(h)?;
+            check_read_case(h, given, code)
+        }
+        Ins::UpdateRecord => {
+            check_record_p(h)?;
+            check_write_case(h, given)
+        }
+        Ins::AppendRecord => {
+            check_append_p(h)?;
+            check_write_case(h, given)
+        }
+        _ => Ok(()),
     }
 }
 
+// Every check up to the comparison.
+fn check_presented(
+    ins: Ins,
+    card: Card,
+    h: Header,
+    given: &[u8],
+    code: &[u8],
+) -> Result<(), Refused>
+    ensures { result ≡ checked (first (frame_sw (coded_of h given.now code.now []) ∷ class_sw (coded_of h given.now code.now []) ∷ first (front ins (coded_of h given.now code.now [])) ∷ tries_sw (login transport card) ∷ challenge_sw (challenge card) ∷ [])) }
+{
+    check_frame(h)?;
+    check_class(h)?;
+    check_front(ins, h, given, code)?;
+    check_tries(tries_at(card, TRANSPORT))?;
+    check_challenge(card.session)
+}
+
 // A code is presented: the command may have one and has one, and every check up to the comparison passes.
+#[tactic(auto, unfolding(rules::specs::Code::presents_code))]
 pub fn presents_code(ins: Ins, card: Card, h: Header, given: &[u8], code: &[u8]) -> bool
     ensures { result ≡ (takes_code (rule ins) && presents_code (front ins (coded_of h given.now code.now [])) (logins card) (challenge card) (coded_of h given.now code.now [])) }
 {
-    let front = front_sw(ins, h, given, code);
-    let tries = tries_sw(tries_at(card, TRANSPORT));
-    let challenge = challenge_sw(card.session);
-    let late = or_else(tries, challenge);
-    let early = or_else(class_sw(h), or_else(front, late));
-    let sw = or_else(frame_sw(h), early);
-    both(takes_code(ins), both(h.cla == WITH_CODE, sw == 0x9000))
+    let passes = check_presented(ins, card, h, given, code).is_ok();
+    takes_code(ins) & (h.cla == WITH_CODE) & passes
 }
 
 // What is given is the code of what it covers, under all sixteen bytes of a key.
@@ -91,16 +108,21 @@ fn is_code_under(key: [u8; 16], session: Session, covered: &[u8], code: &[u8]) -
 pub fn is_code(card: Card, covered: &[u8], code: &[u8]) -> bool
     ensures { result ≡ code_given card covered.now code.now }
 {
-    let key = card.credentials[TRANSPORT];
-    let value = key.value;
-    is_code_under(value, card.session, covered, code)
+    is_code_under(
+        card.credentials[TRANSPORT].value,
+        card.session,
+        covered,
+        code,
+    )
 }
 
-// The status word so far, and the tries left of the transport key.
-fn heard_so(sw: u16, left: u8) -> Heard
-    ensures { result ≡ heard_so sw left }
+// What is asked of the transport key and the challenge, behind P and case.
+fn check_key(front: Result<(), Refused>, tries: Tries, session: Session) -> Result<(), Refused>
+    ensures { (sw : _) → front ≡ checked sw → result ≡ checked (or_else sw (or_else (tries_sw (only_tries tries)) (challenge_sw (challenge_in session)))) }
 {
-    Heard { sw, left }
+    front?;
+    check_tries(tries)?;
+    check_challenge(session)
 }
 
 // Where there is no code all is as P and case have left it. A code presented changes the tries of the transport key, and no right.
@@ -108,24 +130,31 @@ pub(crate) fn hear(
     key: Credential,
     session: Session,
     h: Header,
-    front: u16,
+    front: Result<(), Refused>,
     covered: &[u8],
     code: &[u8],
 ) -> Heard
     requires { or_else (frame_sw (command_of h [])) (class_sw (command_of h [])) ≡ 0x9000 }
-    ensures { (c : Card) → c.session ≡ session → credential c 3 ≡ key → value_of (credential c 3) ≡ (credential c 3).value → Hears front c (coded_of h [] code.now covered.now) result }
+    ensures { (c : Card) → c.session ≡ session → credential c 3 ≡ key → value_of (credential c 3) ≡ (credential c 3).value → (sw : _) → front ≡ checked sw → Hears sw c (coded_of h [] code.now covered.now) result }
 {
     let tries = key.tries;
+    let left = tries.left;
     if h.cla != WITH_CODE {
-        return heard_so(front, tries.left);
+        return Heard {
+            verdict: front,
+            left,
+        };
     }
-    let challenge = challenge_sw(session);
-    let sw = or_else(front, or_else(tries_sw(tries), challenge));
-    if sw != 0x9000 {
-        return heard_so(sw, tries.left);
+    if let Err(refused) = check_key(front, tries, session) {
+        return Heard {
+            verdict: Err(refused),
+            left,
+        };
     }
-    let value = key.value;
-    let right = is_code_under(value, session, covered, code);
+    let right = is_code_under(key.value, session, covered, code);
     let after = tried(tries, right);
-    heard_so(unless(right, 0x6988), after.left)
+    Heard {
+        verdict: unless(right, 0x6988),
+        left: after.left,
+    }
 }

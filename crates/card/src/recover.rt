@@ -10,55 +10,51 @@ use crate::sound::{all_zero, is_sound};
 use crate::state::{
     answer, filled, no_journal, no_session, with_directory, with_session, with_waiting,
 };
-use files::Directory;
-use files::and_or::{both, either};
-use files::numbers::wide;
 use files::state::{blank_file, new_folder};
+use files::{Directory, File};
 use rules::{Answer, Card, Credential, Journal};
 
 // What the journal is about: a PIN, by its number plus one, or what a file knows of its records, by its place plus 16.
 fn is_pin(what: u8) -> bool
     ensures { result ≡ is_pin what }
 {
-    either(what == 2, what == 3)
+    matches!(what, 2 | 3)
 }
 
 fn is_entry(what: u8) -> bool
     ensures { result ≡ is_entry what }
 {
-    both(16 <= what, what < 32)
+    matches!(what, 16..=31)
 }
 
 // A cut can leave such a journal; any other is damage.
+#[tactic(auto, unfolding(power::specs::Journal::left_by_cut))]
 fn left_by_cut(j: Journal, count: u8) -> bool
     ensures { result ≡ left_by_cut j count }
 {
     let what = j.what;
-    let bytes = j.bytes;
-    let some = !all_zero(&bytes[0..4]);
-    let there = both(wide(what) < 16 + wide(count), some);
-    either(what == 0, either(is_pin(what), both(16 <= what, there)))
+    let some = !all_zero(&j.bytes[..4]);
+    let there = (usize::from(what) < 16 + usize::from(count)) & some;
+    (what == 0) | is_pin(what) | ((16 <= what) & there)
 }
 
 // The credential with the value that the journal holds.
 fn value_in(j: Journal, x: Credential) -> Credential
     ensures { result ≡ with_value_of j.bytes x }
 {
-    let bytes = j.bytes;
-    let len = bytes[16];
-    let value = filled(&bytes);
-    let tries = x.tries;
-    Credential { value, len, tries }
+    Credential {
+        value: filled(&j.bytes),
+        len: j.bytes[16],
+        ..x
+    }
 }
 
 fn redo_credential(card: Card, n: usize) -> Card
     requires { n < how_many }
     ensures { result ≡ redo (credential n) card.journal.bytes card }
 {
-    let x = card.credentials[n];
-    let y = value_in(card.journal, x);
     let mut next = card;
-    next.credentials[n] = y;
+    next.credentials[n] = value_in(card.journal, card.credentials[n]);
     next
 }
 
@@ -68,12 +64,13 @@ fn redo_entry(card: Card, place: usize) -> Card
 {
     let bytes = card.journal.bytes;
     let mut directory = card.directory;
-    let mut f = directory.files[place];
-    f.held = bytes[0];
-    f.newest = bytes[1];
-    f.used1 = bytes[2];
-    f.used2 = bytes[3];
-    directory.files[place] = f;
+    directory.files[place] = File {
+        held: bytes[0],
+        newest: bytes[1],
+        used1: bytes[2],
+        used2: bytes[3],
+        ..directory.files[place]
+    };
     with_directory(card, directory)
 }
 
@@ -82,48 +79,52 @@ fn redone(card: Card) -> Card
 {
     let what = card.journal.what;
     if is_pin(what) {
-        return redo_credential(card, (what - 1) as usize);
+        redo_credential(card, usize::from(what - 1))
+    } else if is_entry(what) {
+        redo_entry(card, usize::from(what - 16))
+    } else {
+        card
     }
-    if is_entry(what) {
-        return redo_entry(card, (what - 16) as usize);
+}
+
+// From an index on blank.
+fn trimmed<T: Copy, const N: usize>(xs: [T; N], count: u8, blank: T) -> [T; N]
+    ensures { result ≡ trim blank xs count }
+{
+    let mut next = xs;
+    for i in usize::from(count)..N {
+        next[i] = blank;
     }
-    card
+    next
 }
 
 // Places past the last file are blank.
 fn files_trimmed(d: Directory) -> Directory
     ensures { result ≡ with_files d (trim blank_file d.files d.count) }
 {
-    let mut next = d;
-    let mut i = d.count as usize;
-    while i < 16 {
-        next.files[i] = blank_file();
-        i += 1;
+    Directory {
+        files: trimmed(d.files, d.count, blank_file()),
+        ..d
     }
-    next
 }
 
 // So are those past the last directory.
 fn folders_trimmed(d: Directory) -> Directory
     ensures { result ≡ with_folders d (trim blank_folder d.folders d.number) }
 {
-    let mut next = d;
-    let mut i = d.number as usize;
-    while i < 4 {
-        next.folders[i] = new_folder(0, 0, 0);
-        i += 1;
+    Directory {
+        folders: trimmed(d.folders, d.number, new_folder(0, 0, 0)),
+        ..d
     }
-    next
 }
 
 fn with_journal(card: Card, journal: Journal) -> Card
     ensures { result ≡ with_journal card journal }
 {
-    let mut next = card;
-    next.journal = journal;
-    next
+    Card { journal, ..card }
 }
 
+#[tactic(auto, unfolding(power::specs::Recovery::tidied))]
 fn tidied(card: Card) -> Card
     ensures { result ≡ tidied card }
 {
@@ -134,6 +135,7 @@ fn tidied(card: Card) -> Card
 }
 
 // 2 data area not 4,096 bytes, then 4 where no cut leaves such a journal or no sound card results, both leaving all as it was.
+#[tactic(auto, unfolding(power::specs::Recovery::recover))]
 pub fn recover(card: Card, area: &[u8]) -> Answer
     ensures { result ≡ recover card area.now }
 {
@@ -142,7 +144,7 @@ pub fn recover(card: Card, area: &[u8]) -> Answer
     }
     let next = tidied(card);
     let possible = left_by_cut(card.journal, card.directory.count);
-    if !both(possible, is_sound(next, area)) {
+    if !(possible && is_sound(next, area)) {
         return answer(4, card, 0);
     }
     answer(0, next, 0)

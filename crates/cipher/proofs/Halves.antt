@@ -11,17 +11,18 @@ use lib.Bits.{bit_xor, bit_and, xor_shr, xor_mod, and_shr, and_mod, and_mask, an
 use lib.Arith.{digits_lt, digits_div, digits_mod}
 use lib.Dec.{lit<, eqb}
 use lib.ListN.{get_or, take, drop}
-use lib.Pow.{split, field, mod-mod-pow, shl_lt, shr_lt, shl-shr, shr-shr}
+use lib.Pow.{split, field, mod-mod-pow, shr_lt, shr-shr}
 use Rattle.cipher.specs.declared.Block.{Block}
+use Rattle.std.specs.Int.{w32, rotate_right}
 use Rattle.cipher.specs.Field.{xtime}
 use Rattle.cipher.specs.ShiftRows.{shift_rows}
 use Rattle.cipher.specs.AddRoundKey.{add_round_key}
 use Rattle.cipher.specs.KeyExpansion.{xor_word, sub_word, rot_word}
 use Rattle.cipher.specs.Cipher.{full_round, last_round}
-use Rattle.cipher.specs.Words.{columns, bytes, state, turn24, high_bits, high_halves, merge, mix_word, key_core, NextKey, mix_unless, OnHalves}
+use Rattle.cipher.specs.Words.{columns, bytes, state, high_bits, high_halves, merge, mix_word, key_core, NextKey, mix_unless, OnHalves}
 use Rattle.cipher.proofs.Bits.{xor-back}
 use Rattle.cipher.proofs.Substitution.{low}
-use Rattle.cipher.proofs.Bytes.{four, sum, bytes-turn24, high-bits, high_fits, low_fits, doubled-bytes, mixed-bytes}
+use Rattle.cipher.proofs.Bytes.{four, sum, bytes-turned, high-bits, high_fits, low_fits, doubled-bytes, mixed-bytes}
 use Rattle.cipher.proofs.States.{any_round, join, constant}
 
 -- both columns of r are f of those of v and w
@@ -147,14 +148,6 @@ whole-round last s k t m r p q h o e =
     e ∙ ap (λ (l : List ℕ). add_round_key l (state (columns k))) (join f.first f.second g.first g.second ∙ ap (each_column last) p)
     ∙ column-by-column last s (state (columns k))
 
--- ---- two columns made one word
-module _ (a b : ℕ) (h : a < 4294967296) where
-  pub paired : ((b * 4294967296 + a) % 4294967296 ≡ a) × ((b * 4294967296 + a) / 4294967296 ≡ b)
-  paired = (digits_mod b h, digits_div b h)
-
-  pub paired-fits : b < 4294967296 → b * 4294967296 + a < 18446744073709551616
-  paired-fits g = digits_lt g h
-
 pub upper-small : (a : ℕ) → a < 18446744073709551616 → a / 4294967296 < 4294967296
 upper-small a h = shr_lt 32 32 h
 
@@ -162,15 +155,19 @@ pub lower-small : (a : ℕ) → a % 4294967296 < 4294967296
 lower-small a = mod-lt a (lit< tt)
 
 -- ---- the next round key
-lifted-low : (x : ℕ) → x * 4294967296 % 4294967296 ≡ 0
-lifted-low x = omega arith
+-- the lower column moved to the upper, and added to it
+lifted : (l : ℕ) → l * 4294967296 % 18446744073709551616 ≡ l % 4294967296 * 4294967296
+lifted l = omega arith
 
-spread-low : (l : ℕ) → bit_xor l (l % 4294967296 * 4294967296) % 4294967296 ≡ l % 4294967296
+abbrev spread : ℕ → ℕ
+spread l = bit_xor l (l * 4294967296 % 18446744073709551616)
+
+spread-low : (l : ℕ) → spread l % 4294967296 ≡ l % 4294967296
 spread-low l =
-    xor_mod l (l % 4294967296 * 4294967296) 32 ∙ ap (bit_xor (l % 4294967296)) (lifted-low (l % 4294967296)) ∙ xor_zero_r (l % 4294967296)
+    xor_mod l (l * 4294967296 % 18446744073709551616) 32 ∙ ap (bit_xor (l % 4294967296)) (omega arith) ∙ xor_zero_r (l % 4294967296)
 
-spread-high : (l : ℕ) → bit_xor l (l % 4294967296 * 4294967296) / 4294967296 ≡ bit_xor (l / 4294967296) (l % 4294967296)
-spread-high l = xor_shr l (l % 4294967296 * 4294967296) 32 ∙ ap (bit_xor (l / 4294967296)) (shl-shr (l % 4294967296) 32)
+spread-high : (l : ℕ) → spread l / 4294967296 ≡ bit_xor (l / 4294967296) (l % 4294967296)
+spread-high l = xor_shr l (l * 4294967296 % 18446744073709551616) 32 ∙ ap (bit_xor (l / 4294967296)) (omega arith)
 
 module _ (x g : ℕ) (h : g < 4294967296) where
   added-low : bit_xor x g % 4294967296 ≡ bit_xor (x % 4294967296) g
@@ -178,13 +175,6 @@ module _ (x g : ℕ) (h : g < 4294967296) where
 
   added-high : bit_xor x g / 4294967296 ≡ x / 4294967296
   added-high = xor_shr x g 32 ∙ ap (bit_xor (x / 4294967296)) (div-eq_of_lt h) ∙ xor_zero_r (x / 4294967296)
-
--- l with the lower column added to the upper
-abbrev spread : ℕ → ℕ
-spread l = bit_xor l (l % 4294967296 * 4294967296)
-
-pub lifted-fits : (l : ℕ) → l % 4294967296 * 4294967296 < 18446744073709551616
-lifted-fits l = shl_lt 32 32 (lower-small l)
 
 module _ (k : Block) (g rc : ℕ) (hk : k.lo < 18446744073709551616) (hg : g < 4294967296) (e : bytes g ≡ key_core rc (bytes (k.hi / 4294967296))) where
   abbrev key_lo : ℕ
@@ -196,7 +186,7 @@ module _ (k : Block) (g rc : ℕ) (hk : k.lo < 18446744073709551616) (hg : g < 4
   small : key_lo / 4294967296 < 4294967296
   small =
       let l : bit_xor k.lo g < 18446744073709551616 = xor_lt 64 k.lo g hk (lt_trans hg (lit< tt)) in
-      upper-small key_lo (xor_lt 64 (bit_xor k.lo g) (bit_xor k.lo g % 4294967296 * 4294967296) l (lifted-fits (bit_xor k.lo g)))
+      upper-small key_lo (xor_lt 64 (bit_xor k.lo g) (bit_xor k.lo g * 4294967296 % 18446744073709551616) l (omega arith))
 
   pub key-follows : NextKey rc (columns k) (columns (record { lo = key_lo; hi = key_hi }))
   key-follows =
@@ -227,11 +217,11 @@ core-key h t g rc hh p e =
 
 -- ---- MixColumns of both columns
 -- each column turned
-pub turned-halves : (w l h m n r : ℕ) → w < 18446744073709551616 → l ≡ w % 4294967296 → m ≡ turn24 l → h ≡ w / 4294967296 → n ≡ turn24 h
+pub turned-halves : (w l h m n r : ℕ) → w < 18446744073709551616 → l ≡ w % 4294967296 → m ≡ rotate_right w32 l 8 → h ≡ w / 4294967296 → n ≡ rotate_right w32 h 8
     → (r % 4294967296 ≡ m) × (r / 4294967296 ≡ n) → OnHalves rot_word w r
 turned-halves w l h m n r g p a q b e = record {
-  first = ap bytes (e.0 ∙ a ∙ ap turn24 p) ∙ bytes-turn24 (w % 4294967296) (lower-small w);
-  second = ap bytes (e.1 ∙ b ∙ ap turn24 q) ∙ bytes-turn24 (w / 4294967296) (upper-small w g);
+  first = ap bytes (e.0 ∙ a ∙ ap (λ (x : ℕ). rotate_right w32 x 8) p) ∙ bytes-turned (w % 4294967296) (lower-small w);
+  second = ap bytes (e.1 ∙ b ∙ ap (λ (x : ℕ). rotate_right w32 x 8) q) ∙ bytes-turned (w / 4294967296) (upper-small w g);
 }
 
 -- the bits of v under a mask of less than 25 bits

@@ -1,16 +1,18 @@
 -- Four columns as the state of FIPS 197.
 -- Assumes nothing.
-use mathlib.Core.Path.{◌≡◌, ap, sym, ◌∙◌}
+use mathlib.Core.Path.{◌≡◌, ap₂, sym, ◌∙◌}
 use mathlib.Core.Bool.{Bool, cond}
 use mathlib.Core.List.{List, [], ◌∷◌, ◌++◌}
-use Prim.Native.Nat.{ℕ, zero, suc, ◌+◌, ◌<◌}
-use native.Mathlib.Nat.{add-zero}
+use Prim.Native.Nat.{ℕ, zero, suc, ◌+◌, ◌%◌, ◌/◌, ◌<◌}
 use native.Mathlib.Omega.{arith}
-use lib.ListN.{length, get_or, drop}
-use lib.Seq.{drop-cons, drop-length}
+use lib.ListN.{length, get_or, take, drop, length-take, length-drop, take-append-drop}
+use Rattle.std.proofs.Common.{get_or-drop}
+use Rattle.std.specs.Int.{w64, to_le_bytes, from_le_bytes}
+use Rattle.std.proofs.lemmas.Nat.{le_bytes_8}
+use Rattle.cipher.specs.declared.Block.{Block}
 use Rattle.cipher.specs.Cipher.{full_round, last_round}
-use Rattle.cipher.specs.Words.{Columns, bytes, word, state}
-use Rattle.cipher.proofs.Bytes.{four, bytes_word}
+use Rattle.cipher.specs.Words.{bytes, columns, state}
+use Rattle.cipher.proofs.Bytes.{four}
 
 -- a round with its key, the last one or another
 abbrev pub any_round : Bool → List ℕ → List ℕ → List ℕ
@@ -23,19 +25,27 @@ join p q r s = cc
 pub constant : (rc : ℕ) → rc < 256 → bytes rc ≡ rc ∷ 0 ∷ 0 ∷ 0 ∷ []
 constant rc h = four (omega arith) (omega arith) (omega arith) (omega arith)
 
--- ---- sixteen bytes as four words
-abbrev cells : List ℕ → ℕ → ℕ → List ℕ
-cells s i zero = []
-cells s i (suc n) = get_or s i 0 ∷ cells s (suc i) n
+-- ---- sixteen bytes as two words of two columns
+eight : {a b c d e f g h a' b' c' d' e' f' g' h' : ℕ} → a ≡ a' → b ≡ b' → c ≡ c' → d ≡ d' → e ≡ e' → f ≡ f' → g ≡ g' → h ≡ h'
+    → ◌≡◌ {A = List ℕ} (a ∷ b ∷ c ∷ d ∷ e ∷ f ∷ g ∷ h ∷ []) (a' ∷ b' ∷ c' ∷ d' ∷ e' ∷ f' ∷ g' ∷ h' ∷ [])
+eight p q r s t u v w = cc
 
-cells-all : (s : List ℕ) (n i : ℕ) → length s ≡ i + n → cells s i n ≡ drop i s
-cells-all s zero i h = sym (ap (λ (j : ℕ). drop j s) (sym (h ∙ add-zero i)) ∙ drop-length s)
-cells-all s (suc n) i h = ap (λ (l : List ℕ). get_or s i 0 ∷ l) (cells-all s n (suc i) (omega arith)) ∙ sym (drop-cons s i 0 (omega arith))
+both-columns : (w : ℕ) → to_le_bytes w64 w ≡ bytes (w % 4294967296) ++ bytes (w / 4294967296)
+both-columns w = eight (omega arith) (omega arith) (omega arith) (omega arith) (omega arith) (omega arith) (omega arith) (omega arith)
 
-pub loaded : (s : List ℕ) (k : Columns) → length s ≡ 16 → ((i : ℕ) → get_or s i 0 < 256)
-    → k.a ≡ word (get_or s 0 0) (get_or s 1 0) (get_or s 2 0) (get_or s 3 0) → k.b ≡ word (get_or s 4 0) (get_or s 5 0) (get_or s 6 0) (get_or s 7 0)
-    → k.c ≡ word (get_or s 8 0) (get_or s 9 0) (get_or s 10 0) (get_or s 11 0) → k.d ≡ word (get_or s 12 0) (get_or s 13 0) (get_or s 14 0) (get_or s 15 0)
-    → state k ≡ s
-loaded s k h g p q r t =
-    join (ap bytes p ∙ bytes_word _ _ _ _ (g 0) (g 1) (g 2) (g 3)) (ap bytes q ∙ bytes_word _ _ _ _ (g 4) (g 5) (g 6) (g 7))
-    (ap bytes r ∙ bytes_word _ _ _ _ (g 8) (g 9) (g 10) (g 11)) (ap bytes t ∙ bytes_word _ _ _ _ (g 12) (g 13) (g 14) (g 15)) ∙ cells-all s 16 0 h
+pub written : (s : Block) → to_le_bytes w64 s.lo ++ to_le_bytes w64 s.hi ≡ state (columns s)
+written s = ap₂ ◌++◌ (both-columns s.lo) (both-columns s.hi)
+
+taken_small : (n : ℕ) (s : List ℕ) → ((i : ℕ) → get_or s i 0 < 256) → (i : ℕ) → get_or (take n s) i 0 < 256
+taken_small zero s small i = omega arith
+taken_small (suc n) [] small i = small i
+taken_small (suc n) (x ∷ s) small zero = small 0
+taken_small (suc n) (x ∷ s) small (suc i) = taken_small n s (λ j. small (suc j)) i
+
+pub loaded : (s : List ℕ) (b : Block) → length s ≡ 16 → ((i : ℕ) → get_or s i 0 < 256) → b.lo ≡ from_le_bytes w64 (take 8 s) → b.hi ≡ from_le_bytes w64 (drop 8 s)
+    → state (columns b) ≡ s
+loaded s b n small e f =
+    let h : (i : ℕ) → get_or (drop 8 s) i 0 < 256 = λ i. rw (get_or-drop 8 s i 0) (small (8 + i)) in
+    sym (written b)
+    ∙ ap₂ ◌++◌ (le_bytes_8 (take 8 s) b.lo (omega (arith, length-take 8 s)) (taken_small 8 s small) e) (le_bytes_8 (drop 8 s) b.hi (omega (arith, length-drop 8 s)) h f)
+    ∙ take-append-drop 8 s

@@ -119,7 +119,7 @@ pub(crate) struct Triple {
     pub(crate) c: u64,
 }
 
-// The odd bits of a and the even bits of b change places.
+// The odd bits of a and the even bits of b change places. Two functions, so that distance and mask are constants of the code.
 fn swapped_ones(a: u64, b: u64) -> Pair
     ensures { Swapped 1 fives a b result.a result.b }
 {

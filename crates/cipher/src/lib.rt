@@ -8,13 +8,13 @@ ghost use Rattle.cipher.specs.AddRoundKey.{add_round_key};
 ghost use Rattle.cipher.specs.KeyExpansion.{xor_word, sub_word, rot_word};
 ghost use Rattle.cipher.specs.Cipher.{aes128};
 ghost use Rattle.cipher.specs.Call.{Enciphered};
-ghost use Rattle.cipher.specs.Words.{bytes, word, columns, state, NextKey, OnHalves, merge, mix_unless};
+ghost use Rattle.cipher.specs.Words.{bytes, columns, state, NextKey, OnHalves, merge, mix_unless};
 
 mod circuit;
 mod word;
 
 use circuit::sub_triple;
-use word::{high_half, joined, long, low_half, mixed, turned, wide, word_of};
+use word::{high_half, joined, low_half, mixed, turned};
 
 // Document 01's numbers: a served call, and a buffer that is not 16 bytes.
 const SERVED: u8 = 0;
@@ -52,7 +52,7 @@ fn merged(a: u64, b: u64, m: u64) -> u64
 fn between(a: u64, b: u64) -> u64
     ensures { (result % 4294967296 ≡ a / 4294967296) × (result / 4294967296 ≡ b % 4294967296) }
 {
-    b % 4294967296 * 4294967296 + a / 4294967296
+    joined(high_half(a), low_half(b))
 }
 
 // ShiftRows: the rows 2 and 3 go two columns, then the rows 1 and 3 one.
@@ -79,17 +79,17 @@ fn add_key(s: Block, k: Block) -> Block
 fn key_core(t: u64, rc: u8) -> u32
     ensures { bytes result ≡ xor_word (rot_word (bytes (t % 4294967296))) (rc ∷ 0 ∷ 0 ∷ 0 ∷ []) }
 {
-    low_half(turned(t)) ^ wide(rc)
+    low_half(turned(t)) ^ u32::from(rc)
 }
 
 fn next_key(k: Block, t: u64, rc: u8) -> Block
     requires { OnHalves sub_word (k.hi / 4294967296) t }
     ensures { NextKey rc (columns k) (columns result) }
 {
-    let l = k.lo ^ long(key_core(t, rc));
-    let lo = l ^ (l % 4294967296 * 4294967296);
-    let h = k.hi ^ (lo / 4294967296);
-    let hi = h ^ (h % 4294967296 * 4294967296);
+    let l = k.lo ^ u64::from(key_core(t, rc));
+    let lo = l ^ (l << 32);
+    let h = k.hi ^ (lo >> 32);
+    let hi = h ^ (h << 32);
     Block { lo, hi }
 }
 
@@ -109,59 +109,31 @@ fn enciphered(key: Block, block: Block) -> Block
     let mut rc: u8 = 1;
     for n in 0usize..10 {
         let t = shifted(s);
-        let x = sub_triple(t.lo, t.hi, k.hi / 4294967296);
-        let lo = x.a;
-        let hi = x.b;
-        let next = next_key(k, x.c, rc);
-        let after = add_key(mixed_but_last(Block { lo, hi }, n), next);
+        let x = sub_triple(t.lo, t.hi, k.hi >> 32);
+        k = next_key(k, x.c, rc);
+        s = add_key(mixed_but_last(Block { lo: x.a, hi: x.b }, n), k);
         rc = times_x(rc);
-        k = next;
-        s = after;
     }
     s
-}
-
-fn column_at(s: &[u8], i: usize) -> u32
-    requires { i + 4 ≤ length s.now }
-    ensures { result ≡ word (get_or s.now i 0) (get_or s.now (i + 1) 0) (get_or s.now (i + 2) 0) (get_or s.now (i + 3) 0) }
-{
-    word_of(s[i], s[i + 1], s[i + 2], s[i + 3])
 }
 
 fn loaded(s: &[u8]) -> Block
     requires { length s.now ≡ 16 }
     ensures { state (columns result) ≡ s.now }
 {
-    let lo = joined(column_at(s, 0), column_at(s, 4));
-    let hi = joined(column_at(s, 8), column_at(s, 12));
-    Block { lo, hi }
+    let (lo, hi) = s.split_at(8);
+    Block {
+        lo: u64::from_le_bytes(lo.try_into().unwrap()),
+        hi: u64::from_le_bytes(hi.try_into().unwrap()),
+    }
 }
 
 fn bytes_of(s: Block) -> [u8; 16]
     ensures { result ≡ state (columns s) }
 {
-    let a = low_half(s.lo);
-    let b = high_half(s.lo);
-    let c = low_half(s.hi);
-    let d = high_half(s.hi);
-    [
-        (a % 256) as u8,
-        (a / 256 % 256) as u8,
-        (a / 65536 % 256) as u8,
-        (a / 16777216 % 256) as u8,
-        (b % 256) as u8,
-        (b / 256 % 256) as u8,
-        (b / 65536 % 256) as u8,
-        (b / 16777216 % 256) as u8,
-        (c % 256) as u8,
-        (c / 256 % 256) as u8,
-        (c / 65536 % 256) as u8,
-        (c / 16777216 % 256) as u8,
-        (d % 256) as u8,
-        (d / 256 % 256) as u8,
-        (d / 65536 % 256) as u8,
-        (d / 16777216 % 256) as u8,
-    ]
+    let [a, b, c, d, e, f, g, h] = s.lo.to_le_bytes();
+    let [i, j, k, l, m, n, o, p] = s.hi.to_le_bytes();
+    [a, b, c, d, e, f, g, h, i, j, k, l, m, n, o, p]
 }
 
 fn block_of(key: &[u8], block: &[u8]) -> [u8; 16]
@@ -178,12 +150,13 @@ pub fn aes128(key: [u8; 16], block: [u8; 16]) -> [u8; 16]
     block_of(&key, &block)
 }
 
-fn store(out: &mut [u8], b: [u8; 16])
+// By hand: copy_from_slice compares addresses in 64 bits, and the compiler refuses that for a processor of 32.
+fn store(out: &mut [u8], bytes: [u8; 16])
     requires { length out.old ≡ 16 }
-    ensures { out.new ≡ b }
+    ensures { out.new ≡ bytes }
 {
-    for i in 0..16 {
-        out[i] = b[i];
+    for (i, byte) in bytes.iter().enumerate() {
+        out[i] = *byte;
     }
 }
 
@@ -191,13 +164,7 @@ fn store(out: &mut [u8], b: [u8; 16])
 pub fn encipher(key: &[u8], block: &[u8], out: &mut [u8]) -> u8
     ensures { Enciphered key.now block.now out.old result out.new }
 {
-    if key.len() != 16 {
-        return BAD_LENGTH;
-    }
-    if block.len() != 16 {
-        return BAD_LENGTH;
-    }
-    if out.len() != 16 {
+    if key.len() != 16 || block.len() != 16 || out.len() != 16 {
         return BAD_LENGTH;
     }
     store(out, block_of(key, block));

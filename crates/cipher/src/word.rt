@@ -1,40 +1,14 @@
 // A column as a word of four bytes, the first the lowest, and two columns as a word of eight.
-// Sums, products and remainders say it: the compiler makes shifts and turns of them.
 ghost use Rattle.std.specs.Prelude.{◌≡◌, ◌<◌, ◌/◌, ◌%◌, map};
 ghost use Rattle.cipher.specs.Field.{xtime};
 ghost use Rattle.cipher.specs.KeyExpansion.{rot_word};
-ghost use Rattle.cipher.specs.Words.{bytes, word, turn24, high_halves, mix_word, OnHalves};
-
-pub(crate) fn wide(x: u8) -> u32
-    ensures { (result ≡ x) × (result < 256) }
-{
-    x as u32
-}
-
-pub(crate) fn word_of(a: u8, b: u8, c: u8, d: u8) -> u32
-    ensures { result ≡ word a b c d }
-{
-    wide(a) + 256 * wide(b) + 65536 * wide(c) + 16777216 * wide(d)
-}
-
-// Each byte moved one place down, the lowest to the top.
-fn turned24(w: u32) -> u32
-    ensures { result ≡ turn24 w }
-{
-    w % 256 * 16777216 + w / 256
-}
-
-pub(crate) fn long(x: u32) -> u64
-    ensures { (result ≡ x) × (result < 4294967296) }
-{
-    x as u64
-}
+ghost use Rattle.cipher.specs.Words.{high_halves, mix_word, OnHalves};
 
 // Two columns.
 pub(crate) fn joined(a: u32, b: u32) -> u64
     ensures { (result % 4294967296 ≡ a) × (result / 4294967296 ≡ b) }
 {
-    long(b) * 4294967296 + long(a)
+    u64::from(b) << 32 | u64::from(a)
 }
 
 pub(crate) fn low_half(w: u64) -> u32
@@ -46,21 +20,21 @@ pub(crate) fn low_half(w: u64) -> u32
 pub(crate) fn high_half(w: u64) -> u32
     ensures { result ≡ w / 4294967296 }
 {
-    (w / 4294967296) as u32
+    (w >> 32) as u32
 }
 
-// RotWord of two columns.
+// RotWord of two columns: each byte moved one place down, the lowest to the top.
 pub(crate) fn turned(w: u64) -> u64
     ensures { OnHalves rot_word w result }
 {
-    joined(turned24(low_half(w)), turned24(high_half(w)))
+    joined(low_half(w).rotate_right(8), high_half(w).rotate_right(8))
 }
 
 // Bit 7 of each byte, as a byte 0 or 1.
 fn high_bits(w: u64) -> u64
     ensures { result ≡ high_halves w }
 {
-    (w / 128) & 0x0101010101010101
+    (w >> 7) & 0x0101010101010101
 }
 
 // Each byte times x, all eight at once: what leaves a byte at bit 8 comes back as 1b in the same byte.

@@ -2,12 +2,12 @@
 -- Assumes nothing.
 use Prim.Native.Nat.{ℕ, zero, suc, ◌+◌, ◌-◌, ◌*◌, ◌/◌, ◌≤◌, ◌<◌}
 use mathlib.Core.List.{List, [], ◌∷◌, ◌++◌}
-use mathlib.Core.Path.{◌≡◌, refl, sym, ◌∙◌}
+use mathlib.Core.Path.{◌≡◌, refl, ◌∙◌}
 use native.Mathlib.Numerals.{add-one}
 use native.Mathlib.Omega.{arith}
 use lib.Bits.{bit_xor}
-use lib.ListN.{length, get_or, set, take, drop, length-drop, take-append-drop}
-use lib.Seq.{drop-drop, take_all, take-suc-set}
+use lib.ListN.{length, get_or, take, drop, length-drop, take-append-drop}
+use lib.Seq.{drop-drop, take_all}
 use Rattle.codes.specs.Padding.{padded}
 use Rattle.codes.specs.Chaining.{added, link, chain, first_blocks, joined, ChainGoesOn, BlocksAreAll}
 use Rattle.codes.specs.Code.{mac}
@@ -58,26 +58,17 @@ module _ (key start m : List ℕ) where
       let n : length (padded m) / 16 ≡ i = omega (arith, padded-length m) in
       p ∙ rw n
 
--- ---- the loop over the bytes of a block
-pub none-added : (a b : List ℕ) → [] ≡ added (take 0 a) (take 0 b)
+-- ---- the bytes of a block
+pub added-at : (n : ℕ) (r a b : List ℕ) → length r ≡ n → length a ≡ n → n ≤ length b
+    → ((i : ℕ) → i < n → get_or r i 0 ≡ bit_xor (get_or a i 0) (get_or b i 0)) → r ≡ added a (take n b)
 unfolding added
-none-added a b = refl
-
-added_more : (a b : List ℕ) (i : ℕ) → i < length a → i < length b
-    → added (take (suc i) a) (take (suc i) b) ≡ added (take i a) (take i b) ++ (bit_xor (get_or a i 0) (get_or b i 0) ∷ [])
-unfolding added
-added_more [] b i h k = absurd (omega arith)
-added_more (x ∷ a) [] i h k = absurd (omega arith)
-added_more (x ∷ a) (y ∷ b) zero h k = refl
-added_more (x ∷ a) (y ∷ b) (suc i) h k = rw (added_more a b i (omega arith) (omega arith))
-
-module _ (block a m : List ℕ) (i : ℕ) (v : take i block ≡ added (take i a) (take i (padded m))) where
-  pub byte-added : (b : ℕ) → i < 16 → length block ≡ 16 → length a ≡ 16 → b ≡ get_or (padded m) i 0
-      → take (i + 1) (set block i (bit_xor (get_or a i 0) b)) ≡ added (take (i + 1) a) (take (i + 1) (padded m))
-  byte-added b h k l e =
-      let p : i < length (padded m) = omega (arith, padded-length m) in
-      rw (e, add-one, take-suc-set block i (bit_xor (get_or a i 0) (get_or (padded m) i 0)) (omega arith), v, added_more a (padded m) i (omega arith) p)
-
-  pub all-added : i ≡ 16 → length block ≡ 16 → length a ≡ 16 → block ≡ added a (take 16 (padded m))
-  all-added e k l =
-      sym (take_all i block (omega arith)) ∙ v ∙ rw (take_all i a (omega arith), e)
+added-at zero [] [] b k l h each = refl
+added-at zero [] (x ∷ a) b k l h each = absurd (omega arith)
+added-at zero (z ∷ r) a b k l h each = absurd (omega arith)
+added-at (suc n) [] a b k l h each = absurd (omega arith)
+added-at (suc n) (z ∷ r) [] b k l h each = absurd (omega arith)
+added-at (suc n) (z ∷ r) (x ∷ a) [] k l h each = absurd (omega arith)
+added-at (suc n) (z ∷ r) (x ∷ a) (y ∷ b) k l h each =
+    let first : z ≡ bit_xor x y = each 0 (omega arith) in
+    let rest : r ≡ added a (take n b) = added-at n r a b (omega arith) (omega arith) (omega arith) (λ i j. each (suc i) (omega arith)) in
+    cc

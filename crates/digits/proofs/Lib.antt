@@ -1,5 +1,4 @@
 -- Laws that the proofs of the functions cite, here and above.
-pub mod Values
 pub mod Written
 pub mod Decimal
 pub mod Back

@@ -3,26 +3,25 @@ ghost use Rattle.std.specs.Prelude.{◌≡◌, [], ◌∷◌};
 ghost use Rattle.digits.specs.Digits.{ended, last_digit, decimal, hex_of, or_dash};
 ghost use Rattle.digits.specs.Page.{Draws};
 
-use crate::{high_digit, low_digit};
+use crate::hex_digit;
 
 pub fn put(out: &mut [u8], at: usize, b: u8) -> usize
     ensures { Draws (b ∷ []) out.old at result out.new }
 {
     if at < out.len() {
         out[at] = b;
-        return at + 1;
+        at + 1
+    } else {
+        at
     }
-    at
 }
 
 pub fn put_all(out: &mut [u8], at: usize, text: &[u8]) -> usize
     ensures { Draws text.now out.old at result out.new }
 {
     let mut q = at;
-    let mut i: usize = 0;
-    while i < text.len() {
-        q = put(out, q, text[i]);
-        i += 1;
+    for b in text {
+        q = put(out, q, *b);
     }
     q
 }
@@ -30,7 +29,7 @@ pub fn put_all(out: &mut [u8], at: usize, text: &[u8]) -> usize
 fn last_digit(n: u32) -> u8
     ensures { result ≡ last_digit n }
 {
-    48 + (n % 10) as u8
+    b'0' + (n % 10) as u8
 }
 
 // A number without leading zeros: no number of 32 bits has more than ten digits, which are found from the last to the first.
@@ -42,7 +41,7 @@ fn put_number(out: &mut [u8], at: usize, n: u32) -> usize
     let mut tens = n;
     while tens > 9 {
         digits[from] = last_digit(tens);
-        tens = tens / 10;
+        tens /= 10;
         from -= 1;
     }
     digits[from] = last_digit(tens);
@@ -53,12 +52,9 @@ pub fn put_hex(out: &mut [u8], at: usize, bytes: &[u8]) -> usize
     ensures { Draws (hex_of bytes.now) out.old at result out.new }
 {
     let mut q = at;
-    let mut i: usize = 0;
-    while i < bytes.len() {
-        let b = bytes[i];
-        let middle = put(out, q, high_digit(b));
-        q = put(out, middle, low_digit(b));
-        i += 1;
+    for b in bytes {
+        let middle = put(out, q, hex_digit(*b / 16));
+        q = put(out, middle, hex_digit(*b % 16));
     }
     q
 }
@@ -67,10 +63,11 @@ pub fn put_hex(out: &mut [u8], at: usize, bytes: &[u8]) -> usize
 fn put_or_dash(out: &mut [u8], at: usize, bytes: &[u8]) -> usize
     ensures { Draws (or_dash bytes.now) out.old at result out.new }
 {
-    if bytes.len() == 0 {
-        return put(out, at, 45);
+    if bytes.is_empty() {
+        put(out, at, b'-')
+    } else {
+        put_hex(out, at, bytes)
     }
-    put_hex(out, at, bytes)
 }
 
 // A field, and the byte that ends it.

@@ -1,6 +1,6 @@
 -- The files of the root and the FIDs of directories: the file that is marked for a FID's SFI is the only one that can have it.
-use Prim.Native.Nat.{ℕ, ◌+◌, ◌-◌, ◌*◌, ◌%◌, ◌≤◌, ◌<◌, min}
-use mathlib.Core.Bool.{Bool, true, false, not, ◌&&◌, ◌||◌}
+use Prim.Native.Nat.{ℕ, ◌+◌, ◌-◌, ◌*◌, ◌%◌, ◌≤◌, ◌<◌}
+use mathlib.Core.Bool.{Bool, true, false, not, ◌||◌}
 use mathlib.Core.List.{List}
 use mathlib.Core.Logic.{by_cases}
 use mathlib.Core.Path.{◌≡◌, refl, sym, ap, ◌∙◌}
@@ -65,23 +65,11 @@ module _ (files : List File) (n m : ℕ) where
         let single : seek (here (of_sfi h.folder (sfi h)) files) (p - 1) ≡ 0 = eqb-true _ 0 (below (alone files) n a (p - 1) (omega (arith, low, told, l))) in
         clash (of_sfi h.folder (sfi h) (file_at files i)) c (seek-absent (here (of_sfi h.folder (sfi h)) files) (p - 1) single i before)))
 
-    -- the file that the code looks at
-    module _ (k : ℕ) (at : k ≡ min (p - 1) 15) (few : n ≤ 16) where
-      low : p ≤ 16
-      low = let l = seek-low (here (of_sfi 0 (m % 32)) files) n in omega (arith, l, told, few)
-
-      pub lacks : all_below (alone files) n ≡ true → (not (eqb p 0) && eqb (fid (file_at files k)) m) ≡ false → root_lacks ≡ true
-      lacks a h = by_cases (ℕ_discrete p 0) none-marked
-          (λ o. let q : k ≡ p - 1 = omega (arith, at, low, o) in
-          let t : eqb p 0 ≡ false = ne_eqb p 0 o in
-          other-marked (omega (arith, o)) a (ap (λ t. eqb (fid (file_at files t)) m) (sym q) ∙ sym (ap (λ (b : Bool). not b && eqb (fid (file_at files k)) m) t) ∙ h))
-
-      pub found : (not (eqb p 0) && eqb (fid (file_at files k)) m) ≡ true → (p - 1 < n) × ((file_at files (p - 1)).folder ≡ 0) × (fid (file_at files (p - 1)) ≡ m)
-      found h = by_cases (ℕ_discrete p 0)
-          (λ z. clash (not (eqb p 0)) (both (not (eqb p 0)) (eqb (fid (file_at files k)) m) h).0 (rw (eq-eqb p 0 z)))
-          (λ o. let q : k ≡ p - 1 = omega (arith, at, low, o) in
-          let l = seek-low (here (of_sfi 0 (m % 32)) files) n in
-          (omega (arith, l, told, o), (there (omega (arith, o))).0, ap (λ t. fid (file_at files t)) (sym q) ∙ eqb-true _ m (both (not (eqb p 0)) (eqb (fid (file_at files k)) m) h).1))
+    -- one that has it
+    pub found : (p ≡ 0 → ⊥) → eqb (fid (file_at files (p - 1))) m ≡ true → (p - 1 < n) × ((file_at files (p - 1)).folder ≡ 0) × (fid (file_at files (p - 1)) ≡ m)
+    found o h =
+        let l = seek-low (here (of_sfi 0 (m % 32)) files) n in
+        (omega (arith, l, told, o), (there (omega (arith, o))).0, eqb-true (fid (file_at files (p - 1))) m h)
 
 pub mark-at : (files : List File) (n m at place : ℕ) (seen : List ℕ) → seen ≡ marks files n → at ≡ m % 32 → place ≡ get_or seen at 0
     → place ≡ seek (here (of_sfi 0 (m % 32)) files) n

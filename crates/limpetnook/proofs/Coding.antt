@@ -44,10 +44,10 @@ module _ (key challenge message out : List ℕ) where
   unfolding outcome output
   not-coded h = record { answered = rw h; written = rw h }
 
-  pub is-coded : served key challenge out ≡ true → (k s block left : List ℕ) → k ≡ filled (take 16 key) → s ≡ filled (take 16 challenge) → block ≡ mac k s message → length block ≡ 16
+  pub is-coded : served key challenge out ≡ true → {k s block left : List ℕ} → k ≡ filled (take 16 key) → s ≡ filled (take 16 challenge) → block ≡ mac k s message → length block ≡ 16
       → left ≡ shown (shows (length block) 0 4 (length out)) (part 0 4 block) out → Coded key challenge message out 0 left
   unfolding outcome output
-  is-coded h k s block left hk hs hb l w =
+  is-coded h {block = block} hk hs hb l w =
       let e = each (eqb (length key) 16 ∷ good_challenge (length challenge) ∷ eqb (length out) 4 ∷ []) h in
       let few : length challenge ≤ 16 = challenge-few (length challenge) e.1.0 in
       let b : block ≡ mac key (filled challenge) message = hb ∙ rw (hk, hs, whole-block key (eqb-true _ _ e.0), take_all 16 challenge few) in

@@ -3,8 +3,6 @@ ghost use Rattle.std.specs.Prelude.{◌≡◌, take};
 ghost use Rattle.rules.specs.Words.{filled};
 ghost use Rattle.limpetnook.specs.Board.{good_lengths};
 
-use files::and_or::{both, either};
-use files::numbers::fewer;
 use files::run::show;
 
 pub(crate) const CODE_SIZE: usize = 4;
@@ -13,16 +11,15 @@ pub(crate) const CODE_SIZE: usize = 4;
 pub(crate) fn good_lengths(key: usize, challenge: usize, code: usize) -> bool
     ensures { result ≡ good_lengths key challenge code }
 {
-    let good_challenge = either(challenge == 4, either(challenge == 8, challenge == 16));
-    both(key == 16, both(good_challenge, code == CODE_SIZE))
+    key == 16 && matches!(challenge, 4 | 8 | 16) && code == CODE_SIZE
 }
 
-// Filled with 00 to sixteen bytes; bytes past them are left out.
+// Filled with 00 to sixteen bytes; bytes past them are left out. The same in `card` is private to it.
 pub(crate) fn block_of(bytes: &[u8]) -> [u8; 16]
     ensures { result ≡ filled (take 16 bytes.now) }
 {
     let mut out = [0u8; 16];
-    let n = fewer(16, bytes.len());
+    let n = bytes.len().min(16);
     show(bytes, 0, n, &mut out);
     out
 }

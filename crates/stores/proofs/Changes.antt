@@ -7,7 +7,7 @@ use mathlib.Core.Path.{◌≡◌, refl, sym, ap, ◌∙◌}
 use native.Mathlib.Decide.{dec_lt}
 use native.Mathlib.Omega.{arith}
 use lib.ListN.{length, take, get_or, length-append, length-take, get_or-append, get_or-eq_default}
-use lib.Seq.{get_or-take, get_or-append-add}
+use lib.Seq.{get_or-take, get_or-append_right}
 use Rattle.files.specs.declared.File.{File}
 use Rattle.files.specs.declared.Folder.{Folder}
 use Rattle.files.specs.Part.{zeros}
@@ -27,21 +27,20 @@ use Rattle.stores.proofs.Numbers.{store-first, store-next, store-head, store_tai
 
 -- ---- a new value of a credential
 module _ (d : List ℕ) (short : length d ≤ 16) where
-  pub byte-given : (i : ℕ) → i < length d → get_or d i 0 ≡ get_or (value_bytes d) i 0
-  byte-given i l =
-      sym (get_or-append (filled d) (length d ∷ []) 0 i (omega (arith, filled-length d short)) ∙ ap (λ (x : List ℕ). get_or x i 0) (filled-behind d)
-      ∙ get_or-append d (zeros (16 - length d)) 0 i l)
-
   pub byte-length : (i : ℕ) → i ≡ 16 → length d ≡ get_or (value_bytes d) i 0
   byte-length i e = rw e (sym (length_taken d short))
 
-  pub byte-zero : (i : ℕ) → length d ≤ i → (i ≡ 16 → ⊥) → 0 ≡ get_or (value_bytes d) i 0
-  byte-zero i l o =
-      by_cases (dec_lt i 16)
-      (λ m. let e : i ≡ length d + (i - length d) = omega arith in
-      sym (get_or-append (filled d) (length d ∷ []) 0 i (omega (arith, filled-length d short)) ∙ ap (λ (x : List ℕ). get_or x i 0) (filled-behind d)
-      ∙ ap (λ k. get_or (d ++ zeros (16 - length d)) k 0) e ∙ get_or-append-add d (zeros (16 - length d)) (i - length d) 0 ∙ zero-at (i - length d) (16 - length d)))
-      (λ m. sym (get_or-eq_default (value_bytes d) 0 {n = i} (omega (arith, value-bytes d short, o))))
+  in-value : (i : ℕ) → i < 16 → get_or (value_bytes d) i 0 ≡ get_or (d ++ zeros (16 - length d)) i 0
+  in-value i l = get_or-append (filled d) (length d ∷ []) 0 i (omega (arith, filled-length d short)) ∙ ap (λ (x : List ℕ). get_or x i 0) (filled-behind d)
+
+  -- every other byte: nothing is behind a value, and 00 between it and the sixteenth
+  pub byte-given : (i : ℕ) → (i ≡ 16 → ⊥) → get_or d i 0 ≡ get_or (value_bytes d) i 0
+  byte-given i o =
+      by_cases (dec_lt i (length d))
+      (λ l. sym (in-value i (omega arith) ∙ get_or-append d (zeros (16 - length d)) 0 i l))
+      (λ m. get_or-eq_default d 0 {n = i} (omega arith) ∙ by_cases (dec_lt i 16)
+      (λ l. sym (in-value i l ∙ get_or-append_right d (zeros (16 - length d)) i 0 (omega arith) ∙ zero-at (i - length d) (16 - length d)))
+      (λ n. sym (get_or-eq_default (value_bytes d) 0 {n = i} (omega (arith, value-bytes d short, o)))))
 
   module _ (n : ℕ) where
     abbrev value : List Store

@@ -1,12 +1,16 @@
 -- The stores of each command, as the code works them out behind its checks.
 use Prim.Native.Nat.{ℕ, ◌+◌, ◌-◌, ◌/◌, ◌≤◌, ◌<◌}
-use mathlib.Core.Bool.{Bool, true, false, cond, ◌&&◌, not}
+use mathlib.Core.Bool.{Bool, true, false, cond, not}
 use mathlib.Core.List.{List, [], ◌∷◌, ◌++◌}
+use mathlib.Core.Logic.{◌⊎◌, inl, inr}
 use mathlib.Core.Path.{◌≡◌, refl, sym, ap, ◌∙◌}
 use native.Mathlib.Omega.{arith}
 use lib.Dec.{eqb, leb, ltb}
 use lib.ListN.{length}
-use borrow.Author.Tests.{eq-eqb, ne_eqb, eqb-true, eqb-false, ltb-true, not-true}
+use Rattle.std.proofs.Common.{Ok, Err}
+use Rattle.std.specs.Prelude.{Result}
+use Rattle.std.specs.Result.{is_err}
+use borrow.Author.Tests.{eq-eqb, eqb-false, eqb-true, ltb-true, ne_eqb, not-false, not-true}
 use Rattle.files.specs.declared.File.{File}
 use Rattle.files.specs.declared.Folder.{Folder}
 use Rattle.files.specs.declared.Located.{Located}
@@ -18,13 +22,16 @@ use Rattle.files.specs.Directory.{most_files, start, end}
 use Rattle.files.specs.Record.{next_start, appends_record, appended}
 use Rattle.files.specs.Record as records
 use Rattle.files.specs.Create.{area_size, room, folder_room}
-use Rattle.files.proofs.Checks.{both, clash, each}
+use Rattle.files.proofs.Checks.{each}
 use Rattle.rules.specs.declared.Tries.{Tries}
 use Rattle.rules.specs.declared.Card.{Card}
+use Rattle.rules.specs.declared.Ins.{Ins}
+use Rattle.rules.specs.declared.Ins.TheVariants.{Select, ReadBinary, ReadRecord, GetChallenge, GetResponse, Unlisted}
 use Rattle.rules.specs.Words.{first, same}
 use Rattle.rules.specs.State.{Which, number_of, logins, login_at, login}
 use Rattle.rules.specs.Frame.{Command}
 use Rattle.rules.specs.Effect.{enters, turns}
+use Rattle.rules.specs.List.{rule}
 use Rattle.rules.specs.Select.{selected, entered, select_checks, select_deed}
 use Rattle.rules.specs.Target.{file_of}
 use Rattle.rules.specs.Record.{record_target, record_found, update_record_checks, append_checks}
@@ -35,14 +42,35 @@ use Rattle.rules.proofs.Good.{sound-good}
 use Rattle.rules.proofs.Targets.{target-low, place-run}
 use Rattle.rules.proofs.Asked.{some-file}
 use Rattle.rules.proofs.Found.{update-fits, appends}
+use Rattle.card.specs.declared.Refused.{Refused}
+use Rattle.card.specs.Checks.{checked}
 use Rattle.card.specs.Carried.{Ready}
+use Rattle.card.specs.Coded.{rest}
 use Rattle.card.proofs.Serving.{count-few}
 use Rattle.power.specs.Store.{Store, tries_left, entry_byte, file_count, folder_byte, folder_count, area_byte, row}
 use Rattle.power.specs.Journal.{entry, known_bytes, journaled}
 use Rattle.power.specs.Plan.{oldest_goes, append_stores, deed_stores, lowers, restores, present_stores, touch_stores}
 use Rattle.power.specs.Address.{no_store, a_store, store_at}
-use Rattle.stores.specs.Handing.{stores_if, touch_if, deed_if}
+use Rattle.stores.specs.Handing.{stores_if, touch_if, deed_if, rest_stores}
 use Rattle.stores.proofs.Numbers.{store-head, store_tail, store-none}
+
+-- ---- checks that pass, or of which one refuses
+abbrev verdict : Bool → ℕ → Result Unit Refused
+verdict t sw = cond t (Ok tt) (Err (record { sw = sw }))
+
+err-by : (t : Bool) (a : ℕ) → is_err (verdict t a) ≡ not t
+err-by true a = refl
+err-by false a = refl
+
+some-refuses : (a : ℕ) {r : Result Unit Refused} {b : Bool} → r ≡ checked a → b ≡ is_err r → b ≡ not (eqb a 0x9000)
+unfolding checked
+some-refuses a is asked = asked ∙ ap is_err is ∙ err-by (eqb a 0x9000) a
+
+pub refused : (a : ℕ) {r : Result Unit Refused} {b : Bool} → r ≡ checked a → b ≡ is_err r → b ≡ true → a ≡ 0x9000 → ⊥
+refused a is asked e = eqb-false a 0x9000 (not-true (eqb a 0x9000) (sym (some-refuses a is asked) ∙ e))
+
+pub all-pass : (a : ℕ) {r : Result Unit Refused} {b : Bool} → r ≡ checked a → b ≡ is_err r → b ≡ false → a ≡ 0x9000
+all-pass a is asked e = eqb-true a 0x9000 (not-false (eqb a 0x9000) (sym (some-refuses a is asked) ∙ e))
 
 -- ---- a status word lets all be stored, or nothing
 module _ {sw s : ℕ} (is : s ≡ sw) (xs : List Store) (k : ℕ) where
@@ -67,6 +95,17 @@ select-none c k i = go (is_zero (selected c k))
     go true = nothing_stored (first (select_checks c k)) i
     go false = nothing_stored (first (select_checks c k)) i
 
+-- neither do the others that show, ask for a challenge or are none
+pub shows-none : (i : Ins) → ((i ≡ Select) ⊎ ((i ≡ ReadBinary) ⊎ ((i ≡ ReadRecord) ⊎ ((i ≡ GetChallenge) ⊎ ((i ≡ GetResponse) ⊎ (i ≡ Unlisted))))))
+    → (c : Card) (l : Located) (k : Command) (n : ℕ) → no_store ≡ store_at (rest_stores i c l k) n
+unfolding rest rule
+shows-none i (inl e) c l k n = rw e (select-none c k n)
+shows-none i (inr (inl e)) c l k n = rw e (nothing_stored _ n)
+shows-none i (inr (inr (inl e))) c l k n = rw e (nothing_stored _ n)
+shows-none i (inr (inr (inr (inl e)))) c l k n = rw e (nothing_stored _ n)
+shows-none i (inr (inr (inr (inr (inl e))))) c l k n = rw e (nothing_stored 0x6D00 n)
+shows-none i (inr (inr (inr (inr (inr e))))) c l k n = rw e (nothing_stored 0x6D00 n)
+
 -- ---- a presentation: store 0 whatever is compared, and then the rest
 module _ (c : Card) (w : Which) (agrees : Bool) {n : ℕ} (named : n ≡ number_of w) {t : Tries} (is : t ≡ (login_at n c).tries) (k : ℕ) where
   pub presented-first : k ≡ 0 → a_store (tries_left n (t.left - 1)) ≡ store_at (present_stores c w agrees) k
@@ -76,20 +115,13 @@ module _ (c : Card) (w : Which) (agrees : Bool) {n : ℕ} (named : n ≡ number_
   presented-next o e = rw (e, is, named) (store_tail (lowers w c) (cond agrees (restores w c ∷ []) []) k (omega (arith, o)))
 
 -- VERIFY presents where its checks pass and there are data
-module _ (c : Card) (k : Command) {sw : ℕ} (is : sw ≡ first (verify_checks (logins c) k)) where
-  pub verify-presents : (eqb sw 0x9000 && not (eqb k.case 1)) ≡ true
+module _ (c : Card) (k : Command) (pass : first (verify_checks (logins c) k) ≡ 0x9000) where
+  pub verify-presents : (k.case ≡ 1 → ⊥)
       → present_stores c (pin_named k) (same (login (pin_named k) c).value k.given) ≡ touch_if (verify_checks (logins c) k) c (verify_touch (logins c) k)
-  verify-presents t =
-      let p = both (eqb sw 0x9000) (not (eqb k.case 1)) t in
-      rw (eq-eqb (first (verify_checks (logins c) k)) 0x9000 (sym is ∙ eqb-true sw 0x9000 p.0), not-true (eqb k.case 1) p.1)
+  verify-presents o = rw (eq-eqb (first (verify_checks (logins c) k)) 0x9000 pass, ne_eqb k.case 1 o)
 
-  pub verify-none : (eqb sw 0x9000 && not (eqb k.case 1)) ≡ false → (i : ℕ) → no_store ≡ store_at (touch_if (verify_checks (logins c) k) c (verify_touch (logins c) k)) i
-  verify-none t i = go (eqb sw 0x9000) refl (eqb k.case 1) refl
-    where
-      go : (a : Bool) → eqb sw 0x9000 ≡ a → (b : Bool) → eqb k.case 1 ≡ b → no_store ≡ store_at (touch_if (verify_checks (logins c) k) c (verify_touch (logins c) k)) i
-      go false e b f = held_back is (touch_stores c (verify_touch (logins c) k)) i (eqb-false sw 0x9000 e)
-      go true e true f = rw f (nothing_stored (first (verify_checks (logins c) k)) i)
-      go true e false f = clash _ (rw (e, f)) t
+  pub verify-none : k.case ≡ 1 → (i : ℕ) → no_store ≡ store_at (touch_if (verify_checks (logins c) k) c (verify_touch (logins c) k)) i
+  verify-none e i = rw (eq-eqb k.case 1 e) (nothing_stored (first (verify_checks (logins c) k)) i)
 
 -- ---- where the checks of a command on files pass on a sound card
 update-file : (c : Card) (l : Located) (k : Command) → Passed (update_record_checks c l k) → 1 ≤ record_target c k

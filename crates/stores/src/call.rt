@@ -8,12 +8,13 @@ ghost use Rattle.rules.specs.Record.{record_found, update_record_checks, update_
 ghost use Rattle.rules.specs.Pins.{verify_checks, verify_touch, change_checks, change_touch, reload_checks, reload_touch};
 ghost use Rattle.rules.specs.Device.{cryptogram, authenticate_checks, authenticate_touch};
 ghost use Rattle.rules.specs.Create.{create_checks, create_deed};
+ghost use Rattle.card.specs.Checks.{checked};
 ghost use Rattle.card.specs.Head.{head_of, coded_of, command_of};
 ghost use Rattle.card.specs.Carried.{Ready};
 ghost use Rattle.card.specs.Coded.{code_given};
 ghost use Rattle.power.specs.Plan.{stores_of};
 ghost use Rattle.power.specs.Address.{store_at};
-ghost use Rattle.stores.specs.Handing.{stores_if, touch_if, deed_if, rest_stores, open_sw, presented, coded_stores, plan_stores, refusal, handed, store};
+ghost use Rattle.stores.specs.Handing.{stores_if, touch_if, deed_if, rest_stores, open_sw, presented, coded_stores, plan_stores, refusal, store};
 
 use crate::{
     Handed, append_store, found_store, lowered_store, make_store, no_store, reload_store,
@@ -22,10 +23,9 @@ use crate::{
 use card::sound::is_sound;
 use card::state::{held_at, tries_at};
 use card::step::RANDOM_SIZE;
-use card::words::or_else;
-use card::{AREA_SIZE, Header, binary, code, create, device, frame, list, pins, record, response};
-use files::and_or::both;
-use files::numbers::{less, wide};
+use card::{
+    AREA_SIZE, Header, Refused, binary, code, create, device, frame, list, pins, record, response,
+};
 use files::places::{end, start};
 use files::record::{after_append, next_start};
 use files::sizes::size;
@@ -33,52 +33,52 @@ use power::Numbered;
 use rules::{ADMIN, Card, DEVICE, Ins, TRANSPORT, USER};
 
 // The checks of a command, by the parts of the card that they look at.
-fn verify_sw(card: Card, h: Header, given: &[u8]) -> u16
-    ensures { result ≡ first (verify_checks (logins card) (command_of h given.now)) }
+fn check_verify(card: Card, h: Header, given: &[u8]) -> Result<(), Refused>
+    ensures { result ≡ checked (first (verify_checks (logins card) (command_of h given.now))) }
 {
     let n = pins::pin_named(h);
-    pins::verify_sw(tries_at(card, n), held_at(card, n), h, given)
+    pins::check_verify(tries_at(card, n), held_at(card, n), h, given)
 }
 
-fn authenticate_sw(card: Card, h: Header, given: &[u8]) -> u16
-    ensures { result ≡ first (authenticate_checks (logins card) (challenge card) (command_of h given.now)) }
+fn check_authenticate(card: Card, h: Header, given: &[u8]) -> Result<(), Refused>
+    ensures { result ≡ checked (first (authenticate_checks (logins card) (challenge card) (command_of h given.now))) }
 {
-    device::authenticate_sw(tries_at(card, DEVICE), card.session, h, given)
+    device::check_authenticate(tries_at(card, DEVICE), card.session, h, given)
 }
 
-fn change_sw(card: Card, h: Header, given: &[u8]) -> u16
-    ensures { result ≡ first (change_checks (logins card) (command_of h given.now)) }
+fn check_change(card: Card, h: Header, given: &[u8]) -> Result<(), Refused>
+    ensures { result ≡ checked (first (change_checks (logins card) (command_of h given.now))) }
 {
-    pins::change_sw(held_at(card, pins::pin_named(h)), h, given)
+    pins::check_change(held_at(card, pins::pin_named(h)), h, given)
 }
 
-fn reload_sw(card: Card, h: Header, given: &[u8]) -> u16
-    ensures { result ≡ first (reload_checks (logins card) (command_of h given.now)) }
+fn check_reload(card: Card, h: Header, given: &[u8]) -> Result<(), Refused>
+    ensures { result ≡ checked (first (reload_checks (logins card) (command_of h given.now))) }
 {
-    pins::reload_sw(held_at(card, ADMIN), h, given)
+    pins::check_reload(held_at(card, ADMIN), h, given)
 }
 
-fn create_sw(card: Card, h: Header, given: &[u8]) -> u16
-    ensures { result ≡ first (create_checks card (command_of h given.now)) }
+fn check_create(card: Card, h: Header, given: &[u8]) -> Result<(), Refused>
+    ensures { result ≡ checked (first (create_checks card (command_of h given.now))) }
 {
-    create::create_sw(card.session, card.directory, h, given)
+    create::check_create(card.session, card.directory, h, given)
 }
 
 // Under all sixteen bytes of the device key.
 fn cryptogram(card: Card) -> [u8; 16]
     ensures { result ≡ cryptogram (credential card 0).value (challenge card) }
 {
-    let key = card.credentials[DEVICE];
-    let value = key.value;
-    device::cryptogram(value, card.session)
+    device::cryptogram(card.credentials[DEVICE].value, card.session)
 }
 
 // Store 0 is worked out before anything is compared.
 fn verify(card: Card, h: Header, given: &[u8], k: usize) -> Numbered
     ensures { result ≡ store_at (touch_if (verify_checks (logins card) (command_of h given.now)) card (verify_touch (logins card) (command_of h given.now))) k }
 {
-    let sw = verify_sw(card, h, given);
-    if !both(sw == 0x9000, h.case != 1) {
+    if check_verify(card, h, given).is_err() {
+        return no_store();
+    }
+    if h.case == 1 {
         return no_store();
     }
     let n = pins::pin_named(h);
@@ -94,8 +94,7 @@ fn authenticate(card: Card, h: Header, given: &[u8], k: usize) -> Numbered
     requires { value_of (credential card 0) ≡ (credential card 0).value }
     ensures { result ≡ store_at (touch_if (authenticate_checks (logins card) (challenge card) (command_of h given.now)) card (authenticate_touch (logins card) (challenge card) (command_of h given.now))) k }
 {
-    let sw = authenticate_sw(card, h, given);
-    if sw != 0x9000 {
+    if check_authenticate(card, h, given).is_err() {
         return no_store();
     }
     let tries = tries_at(card, DEVICE);
@@ -109,8 +108,7 @@ fn authenticate(card: Card, h: Header, given: &[u8], k: usize) -> Numbered
 fn change(card: Card, h: Header, given: &[u8], k: usize) -> Numbered
     ensures { result ≡ store_at (touch_if (change_checks (logins card) (command_of h given.now)) card (change_touch (command_of h given.now))) k }
 {
-    let sw = change_sw(card, h, given);
-    if sw != 0x9000 {
+    if check_change(card, h, given).is_err() {
         return no_store();
     }
     value_store(pins::pin_named(h), given, k)
@@ -119,8 +117,7 @@ fn change(card: Card, h: Header, given: &[u8], k: usize) -> Numbered
 fn reload(card: Card, h: Header, given: &[u8], k: usize) -> Numbered
     ensures { result ≡ store_at (touch_if (reload_checks (logins card) (command_of h given.now)) card (reload_touch (command_of h given.now))) k }
 {
-    let sw = reload_sw(card, h, given);
-    if sw != 0x9000 {
+    if check_reload(card, h, given).is_err() {
         return no_store();
     }
     let tries = tries_at(card, USER);
@@ -131,8 +128,7 @@ fn update_binary(card: Card, h: Header, given: &[u8], k: usize) -> Numbered
     requires { length given.now ≤ 255 }
     ensures { result ≡ store_at (deed_if (update_binary_checks card (command_of h given.now)) card (update_binary_deed card (command_of h given.now))) k }
 {
-    let sw = binary::update_binary_sw(card, h, given);
-    if sw != 0x9000 {
+    if binary::check_update_binary(card, h, given).is_err() {
         return no_store();
     }
     let place = binary::binary_target(card, h);
@@ -146,8 +142,7 @@ fn update_record(card: Card, area: &[u8], h: Header, given: &[u8], k: usize) -> 
     ensures { result ≡ store_at (deed_if (update_record_checks card (record_found card area.now (command_of h [])) (command_of h given.now)) card (update_record_deed card (record_found card area.now (command_of h [])) (command_of h given.now))) k }
 {
     let l = record::record_found(card, area, h);
-    let sw = record::update_record_sw(card, l, h, given);
-    if sw != 0x9000 {
+    if record::check_update_record(card, l, h, given).is_err() {
         return no_store();
     }
     let place = record::record_target(card, h);
@@ -160,31 +155,29 @@ fn append_record(card: Card, area: &[u8], h: Header, given: &[u8], k: usize) -> 
     requires given_len_bound { length given.now ≤ 255 }
     ensures { result ≡ store_at (deed_if (append_checks card (command_of h given.now)) card (append_deed card (command_of h given.now))) k }
 {
-    let sw = record::append_sw(card, h, given);
-    if sw != 0x9000 {
+    if record::check_append(card, h, given).is_err() {
         return no_store();
     }
     let place = record::record_target(card, h);
     let f = binary::file_of(card, place);
     let next = after_append(f, given.len());
     let at = start(card.directory, place) + next_start(f);
-    append_store(f, next, less(wide(place), 1), at, given, k)
+    append_store(f, next, usize::from(place).saturating_sub(1), at, given, k)
 }
 
 fn create_file(card: Card, h: Header, given: &[u8], k: usize) -> Numbered
     ensures { result ≡ store_at (deed_if (create_checks card (command_of h given.now)) card (create_deed card (command_of h given.now))) k }
 {
-    let sw = create_sw(card, h, given);
-    if sw != 0x9000 {
+    if check_create(card, h, given).is_err() {
         return no_store();
     }
     let directory = card.directory;
     if create::is_folder(given) {
         let x = create::folder_given(h, given);
-        return found_store(wide(directory.number), x, k);
+        return found_store(usize::from(directory.number), x, k);
     }
     let f = create::file_given(card.session.folder, h, given);
-    make_store(wide(directory.count), end(directory), size(f), f, k)
+    make_store(usize::from(directory.count), end(directory), size(f), f, k)
 }
 
 // The command by its name; what shows, selects or asks for a challenge stores nothing.
@@ -194,10 +187,7 @@ fn obeyed(ins: Ins, card: Card, area: &[u8], h: Header, given: &[u8], k: usize) 
     ensures { result ≡ store_at (rest_stores ins card (record_found card area.now (command_of h [])) (command_of h given.now)) k }
 {
     match ins {
-        Ins::Select => no_store(),
-        Ins::ReadBinary => no_store(),
         Ins::UpdateBinary => update_binary(card, h, given, k),
-        Ins::ReadRecord => no_store(),
         Ins::UpdateRecord => update_record(card, area, h, given, k),
         Ins::AppendRecord => append_record(card, area, h, given, k),
         Ins::Verify => verify(card, h, given, k),
@@ -205,9 +195,12 @@ fn obeyed(ins: Ins, card: Card, area: &[u8], h: Header, given: &[u8], k: usize) 
         Ins::ChangePin => change(card, h, given, k),
         Ins::ReloadPin => reload(card, h, given, k),
         Ins::CreateFile => create_file(card, h, given, k),
-        Ins::GetChallenge => no_store(),
-        Ins::GetResponse => no_store(),
-        Ins::Unlisted => no_store(),
+        Ins::Select
+        | Ins::ReadBinary
+        | Ins::ReadRecord
+        | Ins::GetChallenge
+        | Ins::GetResponse
+        | Ins::Unlisted => no_store(),
     }
 }
 
@@ -242,6 +235,15 @@ fn with_code(
     obeyed(ins, card, area, h, given, k - 2)
 }
 
+// Framing, class, P and case.
+fn check_open(ins: Ins, h: Header, given: &[u8], tail: &[u8]) -> Result<(), Refused>
+    ensures { result ≡ checked (open_sw ins (coded_of h given.now tail.now [])) }
+{
+    frame::check_frame(h)?;
+    frame::check_class(h)?;
+    code::check_front(ins, h, given, tail)
+}
+
 fn without_code(
     ins: Ins,
     card: Card,
@@ -255,9 +257,7 @@ fn without_code(
     requires given_len_bound { length given.now ≤ 255 }
     ensures { result ≡ store_at (stores_if (open_sw ins (coded_of h given.now tail.now [])) (rest_stores ins card (record_found card area.now (command_of h [])) (command_of h given.now))) k }
 {
-    let front = code::front_sw(ins, h, given, tail);
-    let sw = or_else(frame::frame_sw(h), or_else(frame::class_sw(h), front));
-    if sw != 0x9000 {
+    if check_open(ins, h, given, tail).is_err() {
         return no_store();
     }
     obeyed(ins, card, area, h, given, k)
@@ -270,7 +270,7 @@ fn ruled(ins: Ins, card: Card, area: &[u8], h: Header, cmd: &[u8], k: usize) -> 
 {
     let given = frame::given_of(cmd);
     let tail = frame::code_of(cmd);
-    if both(code::takes_code(ins), h.cla == frame::WITH_CODE) {
+    if code::takes_code(ins) && h.cla == frame::WITH_CODE {
         let covered = frame::covered_of(cmd);
         return with_code(ins, card, area, h, given, covered, tail, k);
     }
@@ -288,15 +288,6 @@ pub(crate) fn served(card: Card, area: &[u8], cmd: &[u8], k: usize) -> Numbered
     }
     let ins = list::listed(h.cla, h.ins);
     ruled(ins, card, area, h, cmd, k)
-}
-
-fn handed(outcome: u8, found: Numbered) -> Handed
-    ensures { result ≡ handed outcome found }
-{
-    Handed {
-        outcome,
-        store: found,
-    }
 }
 
 // 2, 3 or 4, by document 01's numbers; 0 where the call is served.
@@ -321,7 +312,13 @@ pub fn store(card: Card, area: &[u8], cmd: &[u8], random: &[u8], n: usize) -> Ha
 {
     let outcome = refusal(card, area, random);
     if outcome != 0 {
-        return handed(outcome, no_store());
+        return Handed {
+            outcome,
+            store: no_store(),
+        };
     }
-    handed(0, served(card, area, cmd, n))
+    Handed {
+        outcome: 0,
+        store: served(card, area, cmd, n),
+    }
 }

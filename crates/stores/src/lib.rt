@@ -16,8 +16,6 @@ ghost use Rattle.stores.specs.Numbers.{only_at, turn, run_at};
 pub mod call; // call.rt: the store of a command that is asked for
 pub mod run; // run.rt: a run of them at once
 
-use files::and_or::both;
-use files::numbers::{fewer, less, wide};
 use files::record::lead;
 use files::sizes::{VARIABLE, count};
 use files::{File, Folder};
@@ -93,6 +91,7 @@ pub(crate) fn no_store() -> Numbered
     }
 }
 
+// Each table has its own function: what keeps its sums from wrapping is its own.
 fn credential_store(n: usize, i: usize, byte: u8) -> Numbered
     requires { (n < how_many) × (i < credential_size) }
     ensures { result ≡ store_to (n * credential_size + i) byte }
@@ -138,7 +137,7 @@ fn turn(n: usize, k: usize) -> usize
     if k < n {
         return k;
     }
-    fewer(less(k, n + 1), n - 1)
+    k.saturating_sub(n + 1).min(n - 1)
 }
 
 // n bytes into the journal, what they are, n bytes over the target, that it is nothing, n times 00: store k by that byte and by what puts it over the target.
@@ -175,13 +174,10 @@ fn value_byte(given: &[u8], i: usize) -> u8
     requires { length given.now ≤ 16 }
     ensures { result ≡ get_or (value_bytes given.now) i 0 }
 {
-    if i < given.len() {
-        return given[i];
-    }
     if i == LENGTH {
         return given.len() as u8;
     }
-    0
+    given.get(i).copied().unwrap_or(0)
 }
 
 pub(crate) fn value_store(n: usize, given: &[u8], k: usize) -> Numbered
@@ -212,8 +208,7 @@ pub(crate) fn lowered_store(n: usize, tries: Tries) -> Numbered
     requires { n < how_many }
     ensures { result ≡ a_store (tries_left n (tries.left - 1)) }
 {
-    let lower = tries.lowered();
-    tries_store(n, lower.left)
+    tries_store(n, tries.lowered().left)
 }
 
 // And then all tries, where the comparison agrees.
@@ -234,10 +229,10 @@ pub(crate) fn update_store(at: usize, given: &[u8], k: usize) -> Numbered
     requires { (at ≤ 2000000) × (length given.now ≤ 255) }
     ensures { result ≡ store_at (row area_byte at given.now) k }
 {
-    if k < given.len() {
-        return area_store(at + k, given[k]);
+    match given.get(k) {
+        Some(&byte) => area_store(at + k, byte),
+        None => no_store(),
     }
-    no_store()
 }
 
 // What a file knows of its records.
@@ -247,13 +242,13 @@ fn known_bytes(f: File) -> [u8; KNOWN_SIZE]
     [f.held, f.newest, f.used1, f.used2]
 }
 
+// In the form of `value_store`: a function that takes both tables would be longer than the two.
 fn known_store(place: usize, f: File, k: usize) -> Numbered
     requires { place < 16 }
     ensures { result ≡ store_at (journaled (entry place) (known_bytes f)) k }
 {
     let i = turn(KNOWN_SIZE, k);
-    let bytes = known_bytes(f);
-    let byte = bytes[i];
+    let byte = known_bytes(f)[i];
     let target = entry_store(place, HELD + i, byte);
     run_store((place + OF_FILE) as u8, KNOWN_SIZE, byte, target, k)
 }
@@ -262,7 +257,7 @@ fn known_store(place: usize, f: File, k: usize) -> Numbered
 fn is_full(f: File) -> bool
     ensures { result ≡ is_full f }
 {
-    both(f.kind != VARIABLE, count(f) <= wide(f.held))
+    f.kind != VARIABLE && count(f) <= usize::from(f.held)
 }
 
 // Byte i of a record as it is stored, in a 2C file behind its length.
@@ -305,8 +300,7 @@ pub(crate) fn append_store(
         return record_store(f, next, place, at, given, k);
     }
     if k == 0 {
-        let held = less(wide(f.held), 1);
-        return entry_store(place, HELD, held as u8);
+        return entry_store(place, HELD, f.held.saturating_sub(1));
     }
     record_store(f, next, place, at, given, k - 1)
 }
@@ -331,11 +325,10 @@ pub(crate) fn make_store(count: usize, end: usize, size: usize, f: File, k: usiz
         return area_store(end + k, 0);
     }
     let i = k - size;
-    if i < ENTRY_SIZE {
-        let bytes = new_bytes(f);
-        return entry_store(count, i, bytes[i]);
+    match new_bytes(f).get(i) {
+        Some(&byte) => entry_store(count, i, byte),
+        None => only(a_store(COUNT_AT, (count + 1) as u8), i - ENTRY_SIZE),
     }
-    only(a_store(COUNT_AT, (count + 1) as u8), i - ENTRY_SIZE)
 }
 
 fn folder_bytes(x: Folder) -> [u8; FOLDER_SIZE]
@@ -349,9 +342,8 @@ pub(crate) fn found_store(number: usize, x: Folder, k: usize) -> Numbered
     requires { number < 4 }
     ensures { result ≡ store_at (row (folder_byte number) 0 (folder_bytes x) ++ (folder_count (number + 1) ∷ [])) k }
 {
-    if k < FOLDER_SIZE {
-        let bytes = folder_bytes(x);
-        return a_store(FOLDERS_AT + number * FOLDER_SIZE + k, bytes[k]);
+    match folder_bytes(x).get(k) {
+        Some(&byte) => a_store(FOLDERS_AT + number * FOLDER_SIZE + k, byte),
+        None => only(a_store(NUMBER_AT, (number + 1) as u8), k - FOLDER_SIZE),
     }
-    only(a_store(NUMBER_AT, (number + 1) as u8), k - FOLDER_SIZE)
 }

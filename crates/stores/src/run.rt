@@ -6,21 +6,15 @@ ghost use Rattle.stores.specs.Runs.{three_bytes, most, Laid, stores, Hands};
 
 use crate::Counted;
 use crate::call::{refusal, served};
-use files::numbers::fewer;
 use files::run::store;
 use power::Numbered;
 use rules::Card;
 
-fn low_byte(n: usize) -> u8
-    ensures { result ≡ n % 256 }
-{
-    (n % 256) as u8
-}
-
 fn three_bytes(s: Numbered) -> [u8; 3]
     ensures { result ≡ three_bytes s }
 {
-    [low_byte(s.at / 256), low_byte(s.at), s.byte]
+    let [.., high, low] = s.at.to_be_bytes();
+    [high, low, s.byte]
 }
 
 // Store 0 alone: that of a presentation must be stored before anything is compared.
@@ -28,7 +22,7 @@ fn most(first: u16, room: usize) -> usize
     ensures { result ≡ most first room }
 {
     let n = room / 3;
-    if first == 0 { fewer(1, n) } else { n }
+    if first == 0 { n.min(1) } else { n }
 }
 
 // At most so many, from the first number on; how many there were.
@@ -37,17 +31,15 @@ fn lay(card: Card, area: &[u8], cmd: &[u8], first: u16, most: usize, out: &mut [
     requires most_in_bounds { 3 * most ≤ length out.old }
     ensures { Laid (stores_of card area.now cmd.now) first most out.old result out.new }
 {
-    let mut k: usize = 0;
-    while k < most {
-        let s = served(card, area, cmd, first as usize + k);
+    for k in 0..most {
+        let s = served(card, area, cmd, usize::from(first) + k);
         if !s.there {
             return k;
         }
         let three = three_bytes(s);
         store(out, 3 * k, &three);
-        k += 1;
     }
-    k
+    most
 }
 
 // The stores of a command from a first number on, on the card as it is before the command; refused as the command is, and then none is given.

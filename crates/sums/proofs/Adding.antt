@@ -3,21 +3,19 @@
 use mathlib.Core.Path.{◌≡◌, refl, sym, ap, ap₂, ◌∙◌}
 use mathlib.Core.Bool.{true, cond}
 use mathlib.Core.List.{List, [], ◌∷◌, ◌++◌}
-use mathlib.Core.Logic.{by_cases}
 use Prim.Native.Nat.{ℕ, ◌+◌, ◌≤◌, ◌<◌}
-use native.Mathlib.Decide.{dec_le}
 use native.Mathlib.Numerals.{add-one}
 use native.Mathlib.Omega.{arith}
 use lib.Dec.{leb}
 use lib.ListN.{length, take, get_or}
-use lib.Seq.{take-suc, take_all}
-use borrow.Author.Tests.{leb-true, le-leb, lt-leb, le-ltb, lt-ltb}
+use lib.Seq.{take-suc}
+use borrow.Author.Tests.{leb-true, le-leb, lt-leb}
 use Rattle.files.proofs.Checks.{both}
 use Rattle.sums.specs.declared.Alarm.{Alarm}
 use Rattle.sums.specs.declared.Totals.{Totals}
 use Rattle.sums.specs.Alarm.{good}
 use Rattle.sums.specs.Totals.{is_at, tally, one, minutes_of, Cell}
-use Rattle.sums.specs.Kept.{plus, sum_of, taken, answered, summed}
+use Rattle.sums.specs.Kept.{plus, sum_of, summed}
 use Rattle.sums.specs.Says.{TotalsJoined, Reordered, TotalsReordered, SummedOnto, ListTaken, ListRefused}
 use Rattle.sums.specs.Says.Reordered.{alike, behind, swapped, after}
 
@@ -62,13 +60,6 @@ list-taken t xs h = rw (le-leb (length xs) 1000 h)
 pub list-refused : ListRefused
 unfolding summed
 list-refused t xs h = rw (lt-leb (length xs) 1000 h)
-
-pub sum-taken : (t : Totals) (ys : List Alarm) → answered (sum_of t (take (taken (length ys)) ys)) (length ys) ≡ summed t ys
-unfolding taken sum_of
-sum-taken t ys =
-    by_cases (dec_le (length ys) 1000)
-    (λ h. rw (le-leb (length ys) 1000 h, le-ltb 1000 (length ys) h, list-taken t ys h, take_all (length ys) ys (omega arith)))
-    (λ h. let k : 1000 < length ys = omega arith in rw (lt-leb (length ys) 1000 k, lt-ltb 1000 (length ys) k, list-refused t ys k))
 
 -- a good alarm's line and kind
 pub good-bounds : (a : Alarm) → good a ≡ true → (1 ≤ a.line) × (a.line ≤ 32) × (1 ≤ a.kind) × (a.kind ≤ 6)

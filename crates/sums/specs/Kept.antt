@@ -1,5 +1,5 @@
 -- How the code keeps totals: 32 bits each, and at most 1,000 alarms taken at a time.
-use Rattle.std.specs.Prelude.{Bool, true, false, cond, List, [], ◌∷◌, ℕ, ◌+◌, ◌%◌, leb, ltb, length, get_or, set, replicate}
+use Rattle.std.specs.Prelude.{Bool, true, false, cond, List, [], ◌∷◌, ℕ, ◌+◌, ◌%◌, leb, length, get_or, set, replicate}
 use Rattle.sums.specs.declared.Alarm.{Alarm}
 use Rattle.sums.specs.declared.Totals.{Totals}
 use Rattle.sums.specs.declared.Summed.{Summed}
@@ -21,16 +21,10 @@ unfoldable pub sum_of : Totals → List Alarm → Totals
 sum_of t [] = t
 sum_of t (a ∷ rest) = sum_of (plus t a) rest
 
--- all of a list, or none where there are more than 1,000
-unfoldable pub taken : ℕ → ℕ
-taken n = cond (leb n 1000) n 0
-
 abbrev pub answer : Totals → Bool → Summed
 answer t refused = record { totals = t; refused = refused }
 
-abbrev pub answered : Totals → ℕ → Summed
-answered t n = answer t (ltb 1000 n)
-
+-- all of a list, or none where there are more than 1,000
 unfoldable pub summed : Totals → List Alarm → Summed
 summed t alarms = cond (leb (length alarms) 1000) (answer (sum_of t alarms) false) (answer t true)
 

@@ -4,9 +4,7 @@
 ghost use Rattle.std.specs.Prelude.{◌≡◌, false, ◌+◌, ◌-◌, ◌*◌, ◌≤◌};
 ghost use Rattle.files.specs.Words.{Bounded};
 ghost use Rattle.sums.specs.Alarm.{good};
-ghost use Rattle.sums.specs.Kept.{no_alarm, plus, sum_of, taken, answer, answered, summed, no_totals, no_batch};
-
-use files::and_or::both;
+ghost use Rattle.sums.specs.Kept.{no_alarm, plus, sum_of, answer, summed, no_totals, no_batch};
 
 // An alarm record, eight bytes, high bytes first.
 #[repr(C)]
@@ -34,25 +32,11 @@ pub struct Summed {
 }
 
 // Line 1 to 32, kind 1 to 6.
+#[tactic(auto, unfolding(crate::specs::Alarm::good))]
 pub fn is_good(a: Alarm) -> bool
     ensures { result ≡ good a }
 {
-    both(
-        both(1 <= a.line, a.line <= 32),
-        both(1 <= a.kind, a.kind <= 6),
-    )
-}
-
-fn wide16(x: u16) -> u64
-    ensures { Bounded 65535 x result }
-{
-    x as u64
-}
-
-fn wide32(x: u32) -> u64
-    ensures { Bounded 4294967295 x result }
-{
-    x as u64
+    matches!(a.line, 1..=32) && matches!(a.kind, 1..=6)
 }
 
 // The place of a line and kind.
@@ -60,7 +44,7 @@ fn place(line: u8, kind: u8) -> usize
     requires { (1 ≤ line) × (line ≤ 32) × (1 ≤ kind) × (kind ≤ 6) }
     ensures { Bounded 191 ((line - 1) * 6 + (kind - 1)) result }
 {
-    ((line - 1) as usize) * 6 + ((kind - 1) as usize)
+    usize::from(line - 1) * 6 + usize::from(kind - 1)
 }
 
 // The totals with one alarm more. One that is not good is passed over; a sum past 32 bits, which 65,535 alarms do not reach, wraps.
@@ -71,43 +55,30 @@ pub fn add(t: Totals, a: Alarm) -> Totals
         return t;
     }
     let i = place(a.line, a.kind);
-    let n = wide32(t.counts[i]) + 1;
-    let m = wide32(t.minutes[i]) + wide16(a.minutes);
     let mut r = t;
-    r.counts[i] = (n % 4294967296) as u32;
-    r.minutes[i] = (m % 4294967296) as u32;
+    r.counts[i] = r.counts[i].wrapping_add(1);
+    r.minutes[i] = r.minutes[i].wrapping_add(u32::from(a.minutes));
     r
-}
-
-// As many as are there, and none where there are more than 1,000.
-fn taken(n: usize) -> usize
-    ensures { Bounded n (taken n) result }
-{
-    if n <= 1000 { n } else { 0 }
-}
-
-fn answered(totals: Totals, n: usize) -> Summed
-    ensures { result ≡ answered totals n }
-{
-    Summed {
-        totals,
-        refused: n > 1000,
-    }
 }
 
 // The totals of a list of alarms, onto those before. A list of more than 1,000 is refused: the totals come back as they were.
 pub fn sum(alarms: &[Alarm], t: Totals) -> Summed
     ensures { result ≡ summed t alarms.now }
 {
-    let len = alarms.len();
-    let n = taken(len);
-    let mut r = t;
-    let mut i = 0;
-    while i < n {
-        r = add(r, alarms[i]);
-        i += 1;
+    if alarms.len() > 1000 {
+        return Summed {
+            totals: t,
+            refused: true,
+        };
     }
-    answered(r, len)
+    let mut totals = t;
+    for a in alarms {
+        totals = add(totals, *a);
+    }
+    Summed {
+        totals,
+        refused: false,
+    }
 }
 
 // The same of a whole batch, which is never refused, with plain parameters.
@@ -141,6 +112,5 @@ pub fn no_alarm() -> Alarm
 pub fn no_batch() -> [Alarm; 1000]
     ensures { result ≡ no_batch }
 {
-    let none = no_alarm();
-    [none; 1000]
+    [no_alarm(); 1000]
 }

@@ -4,13 +4,13 @@ use Prim.Native.Nat.{ℕ, suc, ◌+◌, ◌-◌, ◌≤◌, ◌<◌, min}
 use mathlib.Core.Bool.{Bool, true, false, cond}
 use mathlib.Core.List.{List, [], ◌∷◌, ◌++◌, append_assoc}
 use mathlib.Core.Path.{◌≡◌, refl, sym, ap, ap₂, ◌∙◌}
-use mathlib.Core.Logic.{by_cases}
-use native.Mathlib.Decide.{dec_le}
 use native.Mathlib.Numerals.{add-one}
 use native.Mathlib.Omega.{arith}
-use lib.ListN.{length, get_or, take, drop, length-drop, drop_of_length-le}
-use lib.Seq.{drop-cons, drop-drop}
-use Rattle.digits.specs.Digits.{tab, newline, ended, hex_of, or_dash}
+use lib.ListN.{length, get_or, take, drop, length-append, drop_of_length-le}
+use lib.Seq.{drop-cons, take-append_seam, drop-append_seam}
+use Rattle.std.proofs.lemmas.List.{take_min, drop_min}
+use Rattle.std.specs.List.{flat_map}
+use Rattle.digits.specs.Digits.{tab, newline, ended, decimal, hex_of, or_dash}
 use Rattle.files.specs.declared.File.{File}
 use Rattle.files.specs.declared.Folder.{Folder}
 use Rattle.files.specs.declared.Directory.{Directory}
@@ -18,7 +18,6 @@ use Rattle.files.specs.Words.{Bounded, is_zero}
 use Rattle.files.specs.State.{blank_file, blank_folder}
 use Rattle.files.specs.Types.{size}
 use Rattle.files.specs.Directory.{file, used}
-use Rattle.card.proofs.Filling.{take-fewer}
 use Rattle.rules.specs.declared.Card.{Card}
 use Rattle.rules.specs.State.{credential}
 use Rattle.texts.specs.Text.{Form, line, credential_line, credential_lines, current_fid, home_fid, home, parting, tail, session_line, folder_line, folder_lines, folder_count, file_line, rows, lines_for, contents, files_text, text}
@@ -63,6 +62,26 @@ module _ (form : Form) (d : Directory) (n : ℕ) where
   pub a-home : form ≡ true → (v : List ℕ) (p q : Page) → v ≡ home_fid d n → q ≡ draw (ended newline (or_dash v)) p → q ≡ draw (tail form d n) p
   a-home z v p q h e = rw z (line-last (or_dash (home_fid d n)) p q (e ∙ rw h))
 
+-- the rights drawn in a loop
+abbrev pub right_fields : List ℕ → List ℕ
+right_fields = flat_map (λ r. ended tab (decimal r))
+
+pub rights-more : (rights : List ℕ) (i : ℕ) (p q : Page) → i < length rights → q ≡ draw (ended tab (decimal (get_or rights i 0))) p → draw (right_fields (drop (i + 1) rights)) q ≡ draw (right_fields (drop i rights)) p
+rights-more rights i p q h g = rw (add-one i, drop-cons rights i 0 h, g) (sym (draw-append (ended tab (decimal (get_or rights i 0))) _ p))
+
+pub rights-end : (rights : List ℕ) (i : ℕ) (p : Page) → length rights ≤ i → draw (right_fields (drop i rights)) p ≡ p
+rights-end rights i p h = rw (drop_of_length-le rights h) (draw-none p)
+
+-- there are three of them
+pub three-rights : (rights : List ℕ) → length rights ≡ 3 → (p q : Page) → q ≡ draw (right_fields rights) p
+    → q ≡ draw (ended tab (decimal (get_or rights 2 0))) (draw (ended tab (decimal (get_or rights 1 0))) (draw (ended tab (decimal (get_or rights 0 0))) p))
+three-rights [] h p q e = absurd (omega arith)
+three-rights (a ∷ []) h p q e = absurd (omega arith)
+three-rights (a ∷ b ∷ []) h p q e = absurd (omega arith)
+three-rights (a ∷ b ∷ c ∷ []) h p q e =
+    e ∙ draw-append (ended tab (decimal a)) _ p ∙ draw-append (ended tab (decimal b)) _ _ ∙ draw-append (ended tab (decimal c)) [] _ ∙ draw-none _
+three-rights (a ∷ b ∷ c ∷ d ∷ r) h p q e = absurd (omega arith)
+
 fid-front : (z : Bool) (a b n : ℕ) → n ≡ cond z 0 2 → take n (a ∷ b ∷ []) ≡ cond z [] (a ∷ b ∷ [])
 fid-front true a b n e = rw e
 fid-front false a b n e = rw e
@@ -70,83 +89,51 @@ fid-front false a b n e = rw e
 pub current-front : (d : Directory) (cur : ℕ) (f : File) (n : ℕ) → f ≡ file d cur → n ≡ cond (is_zero cur) 0 2 → take n (f.fid1 ∷ f.fid2 ∷ []) ≡ current_fid d cur
 current-front d cur f n e h = rw e (fid-front (is_zero cur) (file d cur).fid1 (file d cur).fid2 n h)
 
--- n on, or the end: the same is left, and the same lies between
-pub drop-fewer : (at n : ℕ) (s : List ℕ) → drop (min (at + n) (length s)) s ≡ drop n (drop at s)
-drop-fewer at n s =
-    by_cases (dec_le (at + n) (length s))
-    (λ h. let e : min (at + n) (length s) ≡ at + n = omega arith in rw e (sym (drop-drop n at s)))
-    (λ h. let e : min (at + n) (length s) ≡ length s = omega arith in
-    let l : length s ≤ length s = omega arith in
-    let m : length s ≤ at + n = omega arith in
-    rw e (drop_of_length-le s l ∙ sym (drop-drop n at s ∙ drop_of_length-le s m)))
-
-pub between : (at n to : ℕ) (s : List ℕ) → at ≤ length s → to ≡ min (at + n) (length s) → take (to - at) (drop at s) ≡ take n (drop at s)
-between at n to s h t =
-    let m : to - at ≡ min n (length (drop at s)) = simp length-drop (omega arith) in
-    ap (λ (x : ℕ). take x (drop at s)) m ∙ take-fewer n (drop at s)
-
 -- contents drawn in a loop
 lines_more : (n : ℕ) → 1 ≤ n → lines_for n ≡ suc (lines_for (n - 32))
 lines_more n h = omega arith
 
-pub rows-begin : (bytes : List ℕ) (p : Page) → draw (rows (lines_for (length bytes - 0)) bytes) p ≡ draw (contents bytes) p
-unfolding contents
-rows-begin bytes p = let e : length bytes - 0 ≡ length bytes = omega arith in rw e
+pub rows-more : (bytes row rest : List ℕ) (p q : Page) → bytes ≡ row ++ rest → length row ≡ min 32 (length bytes) → 0 < length bytes → q ≡ draw (ended newline (hex_of row)) p → draw (contents rest) q ≡ draw (contents bytes) p
+unfolding contents rows
+rows-more bytes row rest p q e l h g =
+    let k : lines_for (length bytes) ≡ suc (lines_for (length bytes - 32)) = lines_more (length bytes) (omega arith) in
+    let n : length rest ≡ length bytes - 32 = omega (arith, ap length e, length-append row rest) in
+    let t : take 32 bytes ≡ row = sym (take_min 32 bytes) ∙ rw (← l, e) (take-append_seam row rest) in
+    let d : drop 32 bytes ≡ rest = sym (drop_min 32 bytes) ∙ rw (← l, e) (drop-append_seam row rest) in
+    rw (k, n, t, d, g) (sym (draw-append (ended newline (hex_of row)) (rows (lines_for (length bytes - 32)) rest) p))
 
-pub rows_more : (bytes : List ℕ) (i to : ℕ) (p q : Page) → i < length bytes → to ≡ min (i + 32) (length bytes) → q ≡ draw (ended newline (hex_of (take (to - i) (drop i bytes)))) p
-    → draw (rows (lines_for (length bytes - to)) (drop to bytes)) q ≡ draw (rows (lines_for (length bytes - i)) (drop i bytes)) p
-unfolding rows
-rows_more bytes i to p q h t e =
-    let k : lines_for (length bytes - i) ≡ suc (lines_for (length bytes - i - 32)) = lines_more (length bytes - i) (omega arith) in
-    let n : length bytes - to ≡ length bytes - i - 32 = omega arith in
-    let d : drop to bytes ≡ drop 32 (drop i bytes) = ap (λ (m : ℕ). drop m bytes) t ∙ drop-fewer i 32 bytes in
-    let w : take (to - i) (drop i bytes) ≡ take 32 (drop i bytes) = between i 32 to bytes (omega arith) t in
-    rw (k, n, d, e, w)
-    (sym (draw-append (ended newline (hex_of (take 32 (drop i bytes)))) (rows (lines_for (length bytes - i - 32)) (drop 32 (drop i bytes))) p))
+pub rows-end : (bytes : List ℕ) (p : Page) → length bytes ≡ 0 → draw (contents bytes) p ≡ p
+unfolding contents rows draw
+rows-end bytes p h = let k : lines_for (length bytes) ≡ 0 = omega arith in rw k
 
-pub rows_end : (bytes rest : List ℕ) (i : ℕ) (p : Page) → length bytes ≤ i → draw (rows (lines_for (length bytes - i)) rest) p ≡ p
-unfolding rows draw
-rows_end bytes rest i p h = let k : lines_for (length bytes - i) ≡ 0 = omega arith in rw k
+-- files drawn in a loop, the rest of the area behind the files that are done
+pub files-more : (form : Form) (d : Directory) (files : List File) (area bytes more : List ℕ) (i m k : ℕ) (f : File) (p q : Page) → i < length files → f ≡ get_or files i blank_file → Bounded 65535 (size f) m
+    → k ≡ min m (length area) → bytes ≡ take k area → more ≡ drop k area → q ≡ draw (file_line form d f ++ contents bytes) p
+    → draw (files_text form d (drop (i + 1) files) more) q ≡ draw (files_text form d (drop i files) area) p
+unfolding files_text
+files-more form d files area bytes more i m k f p q h e s n t r g =
+    let c : drop i files ≡ f ∷ drop (i + 1) files = drop-cons files i blank_file h ∙ ap₂ (λ (x : File) (y : ℕ). x ∷ drop y files) (sym e) (sym (add-one i)) in
+    let t' : bytes ≡ take (size f) area = t ∙ ap (λ (x : ℕ). take x area) n ∙ take_min m area ∙ ap (λ (x : ℕ). take x area) s.is in
+    let r' : more ≡ drop (size f) area = r ∙ ap (λ (x : ℕ). drop x area) n ∙ drop_min m area ∙ ap (λ (x : ℕ). drop x area) s.is in
+    rw (c, g, t', r')
+    (sym (ap (λ (x : List ℕ). draw x p) (sym (append_assoc (file_line form d f) (contents (take (size f) area)) _))
+    ∙ draw-append (file_line form d f ++ contents (take (size f) area)) _ p))
 
--- files drawn in a loop: n files, i of them done, the area from an index on
-module _ (form : Form) (d : Directory) where
-  pub files-more : (files : List File) (area : List ℕ) (n i at to m : ℕ) (f : File) (p q : Page) → i < n → n ≤ length files → f ≡ get_or files i blank_file → Bounded 65535 (size f) m
-      → to ≡ min (at + m) (length area) → q ≡ draw (file_line form d f ++ contents (take (to - at) (drop at area))) p → at ≤ length area
-      → draw (files_text form d (take (n - (i + 1)) (drop (i + 1) files)) (drop to area)) q ≡ draw (files_text form d (take (n - i) (drop i files)) (drop at area)) p
-  unfolding files_text
-  files-more files area n i at to m f p q h l e s t g r =
-      let k : n - i ≡ suc (n - (i + 1)) = omega arith in
-      let t' : to ≡ min (at + size f) (length area) = t ∙ ap (λ (x : ℕ). min (at + x) (length area)) s.is in
-      let d₀ : drop to area ≡ drop (size f) (drop at area) = ap (λ (x : ℕ). drop x area) t' ∙ drop-fewer at (size f) area in
-      let w : take (to - at) (drop at area) ≡ take (size f) (drop at area) = between at (size f) to area r t' in
-      let c : drop i files ≡ f ∷ drop (i + 1) files = drop-cons files i blank_file (omega arith) ∙ ap₂ (λ (x : File) (y : ℕ). x ∷ drop y files) (sym e) (sym (add-one i)) in
-      rw (k, c, d₀, g, w)
-      (sym (ap (λ (x : List ℕ). draw x p) (sym (append_assoc (file_line form d f) (contents (take (size f) (drop at area))) _))
-      ∙ draw-append (file_line form d f ++ contents (take (size f) (drop at area))) _ p))
-
-  pub files-end : (files : List File) (area : List ℕ) (n i : ℕ) (p : Page) → n ≤ i → draw (files_text form d (take (n - i) (drop i files)) area) p ≡ p
-  unfolding files_text draw
-  files-end files area n i p h = let k : n - i ≡ 0 = omega arith in rw k
-
-  pub files-begin : (files : List File) (area : List ℕ) (n m : ℕ) (p : Page) → n ≡ m → draw (files_text form d (take (n - 0) files) area) p ≡ draw (files_text form d (take m files) area) p
-  files-begin files area n m p e = let k : n - 0 ≡ m = omega arith in rw k
+pub files-end : (form : Form) (d : Directory) (files : List File) (area : List ℕ) (i : ℕ) (p : Page) → length files ≤ i → draw (files_text form d (drop i files) area) p ≡ p
+unfolding files_text draw
+files-end form d files area i p h = rw (drop_of_length-le files h)
 
 -- directories drawn in a loop
-pub folders-more : (folders : List Folder) (n i : ℕ) (x : Folder) (p q : Page) → i < n → n ≤ length folders → x ≡ get_or folders i blank_folder → q ≡ draw (folder_line x) p
-    → draw (folder_lines (take (n - (i + 1)) (drop (i + 1) folders))) q ≡ draw (folder_lines (take (n - i) (drop i folders))) p
+pub folders-more : (folders : List Folder) (i : ℕ) (x : Folder) (p q : Page) → i < length folders → x ≡ get_or folders i blank_folder → q ≡ draw (folder_line x) p
+    → draw (folder_lines (drop (i + 1) folders)) q ≡ draw (folder_lines (drop i folders)) p
 unfolding folder_lines
-folders-more folders n i x p q h l e g =
-    let k : n - i ≡ suc (n - (i + 1)) = omega arith in
-    let c : drop i folders ≡ x ∷ drop (i + 1) folders = drop-cons folders i blank_folder (omega arith) ∙ ap₂ (λ (y : Folder) (z : ℕ). y ∷ drop z folders) (sym e) (sym (add-one i)) in
-    rw (k, c, g) (sym (draw-append (folder_line x) _ p))
+folders-more folders i x p q h e g =
+    let c : drop i folders ≡ x ∷ drop (i + 1) folders = drop-cons folders i blank_folder h ∙ ap₂ (λ (y : Folder) (z : ℕ). y ∷ drop z folders) (sym e) (sym (add-one i)) in
+    rw (c, g) (sym (draw-append (folder_line x) _ p))
 
-pub folders-end : (folders : List Folder) (n i : ℕ) (p : Page) → n ≤ i → draw (folder_lines (take (n - i) (drop i folders))) p ≡ p
+pub folders-end : (folders : List Folder) (i : ℕ) (p : Page) → length folders ≤ i → draw (folder_lines (drop i folders)) p ≡ p
 unfolding folder_lines draw
-folders-end folders n i p h = let k : n - i ≡ 0 = omega arith in rw k
-
-pub folders-begin : (d : Directory) (n : ℕ) (p : Page) → n ≡ min d.number 4 → draw (folder_lines (take (n - 0) d.folders)) p ≡ draw (folder_lines (take (folder_count d) d.folders)) p
-unfolding folder_count
-folders-begin d n p e = let k : n - 0 ≡ min d.number 4 = omega arith in rw k
+folders-end folders i p h = rw (drop_of_length-le folders h)
 
 -- the lines of a card
 pub credentials-drawn : (c : Card) (p p₁ p₂ p₃ p₄ : Page) → p₁ ≡ draw (credential_line (credential c 0)) p → p₂ ≡ draw (credential_line (credential c 1)) p₁ → p₃ ≡ draw (credential_line (credential c 2)) p₂

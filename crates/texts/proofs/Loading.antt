@@ -1,6 +1,6 @@
 -- What a text says, put together from the fields read; the writer and the reader.
 -- Assumes nothing.
-use Prim.Native.Nat.{ℕ, suc, ◌+◌, ◌%◌, ◌≤◌}
+use Prim.Native.Nat.{ℕ, suc, ◌+◌, ◌≤◌}
 use mathlib.Core.Bool.{Bool, true, false, ◌&&◌}
 use mathlib.Core.List.{List, [], ◌∷◌, append-nil}
 use mathlib.Core.Path.{◌≡◌, refl, sym, ap, ◌∙◌}
@@ -14,8 +14,7 @@ use Rattle.files.specs.declared.Folder.{Folder}
 use Rattle.files.specs.declared.Directory.{Directory}
 use Rattle.files.specs.Words.{two, is_zero}
 use Rattle.files.specs.Part.{part, over, splice, zeros, shown, shows, stored, Reading, Writing}
-use Rattle.files.specs.State.{new_file, in_folder, new_folder, blank_file, with_newest, with_used}
-use Rattle.files.specs.Types.{variable}
+use Rattle.files.specs.State.{new_file, in_folder, new_folder, blank_file}
 use Rattle.files.specs.Directory.{most_files, find_fid, find_folder}
 use Rattle.files.specs.Create.{area_size}
 use Rattle.files.proofs.Parts.{over-splice}
@@ -32,7 +31,7 @@ use Rattle.rules.specs.State.{how_many_rights, response_size, response_of, no_jo
 use Rattle.rules.specs.Sound.{sound}
 use Rattle.texts.specs.Text.{Form, new, text, of_form}
 use Rattle.digits.specs.Page.{Draws}
-use Rattle.texts.specs.Reading.{skip, skips, hex_in, number, small, tries_of, tries_in, credential_in, home_in, current_in, rights_in, session_in, response_in, counted, file_of, file_in, housed_in, bytes_in, folder_in, folders_in, most_folders_of, foldered, session_part, folders_part, folders_read, files_part, card_in, area_in, Fills, LoadsAll, LoadsDirectory, LoadsCard}
+use Rattle.texts.specs.Reading.{laid, skip, skips, hex_in, number, small, tries_of, tries_in, credential_in, home_in, current_in, rights_in, session_in, response_in, counted, file_of, file_in, housed_in, bytes_in, folder_in, folders_in, most_folders_of, foldered, session_part, folders_part, folders_read, files_part, card_in, area_in, Fills, LoadsAll, LoadsDirectory, LoadsCard}
 use Rattle.texts.specs.Calls.{accepted, to_text, Writes, from_text, Reads, converted}
 use Rattle.texts.specs.Laws.{longest}
 use Rattle.digits.proofs.Drawn.{drawn-over}
@@ -60,14 +59,17 @@ module _ (d : Directory) (home : ℕ) (h : List ℕ) (n : ℕ) (e : n ≡ length
 pub byte_of : (m : ℕ) (s : List ℕ) (n : ℕ) (left : List ℕ) (i : ℕ) → Fills (hex_in m s) (replicate m 0) n left → byte left i ≡ byte (hex_in m s) i
 byte_of m s n left i f = rw f.left_is (laid-byte m (hex_in m s) i (hex-few m s))
 
-pub home-is : (d : Directory) (s : List ℕ) (n : ℕ) (fid : List ℕ) (t r : ℕ) → Fills (hex_in 2 s) (replicate 2 0) n fid → t ≡ two (byte fid 0) (byte fid 1) → r ≡ find_folder d t → r ≡ home_in d s
-unfolding home_in
-home-is d s n fid t r f e h = h ∙ ap (find_folder d) (e ∙ rw (byte_of 2 s n fid 0 f, byte_of 2 s n fid 1 f))
+-- a field's first bytes in a buffer of as many
+byte_in : (m : ℕ) (s left : List ℕ) (i : ℕ) → left ≡ laid (zeros m) 0 (hex_in m s) → byte left i ≡ byte (hex_in m s) i
+byte_in m s left i e = rw e (laid-byte m (hex_in m s) i (hex-few m s))
 
-pub folder-is : (s rest : List ℕ) (n m : ℕ) (fid right : List ℕ) (r : Folder) → Fills (hex_in 2 s) (replicate 2 0) n fid → rest ≡ skips 1 s → Fills (hex_in 1 rest) (replicate 1 0) m right
-    → r ≡ new_folder (byte fid 0) (byte fid 1) (byte right 0) → r ≡ folder_in s
+pub home-is : (d : Directory) (s fid : List ℕ) (t r : ℕ) → fid ≡ laid (zeros 2) 0 (hex_in 2 s) → t ≡ two (byte fid 0) (byte fid 1) → r ≡ find_folder d t → r ≡ home_in d s
+unfolding home_in
+home-is d s fid t r f e h = h ∙ ap (find_folder d) (e ∙ rw (byte_in 2 s fid 0 f, byte_in 2 s fid 1 f))
+
+pub folder-is : (s rest fid right : List ℕ) (r : Folder) → fid ≡ laid (zeros 2) 0 (hex_in 2 s) → rest ≡ skips 1 s → right ≡ laid (zeros 1) 0 (hex_in 1 rest) → r ≡ new_folder (byte fid 0) (byte fid 1) (byte right 0) → r ≡ folder_in s
 unfolding folder_in
-folder-is s rest n m fid right r f e g h = h ∙ rw (byte_of 2 s n fid 0 f, byte_of 2 s n fid 1 f, byte_of 1 rest m right 0 g, e)
+folder-is s rest fid right r f e g h = h ∙ rw (byte_in 2 s fid 0 f, byte_in 2 s fid 1 f, byte_in 1 rest right 0 g, e)
 
 pub session-is : (d : Directory) (s rights : List ℕ) (home cur n : ℕ) (left : List ℕ) → rights ≡ rights_in s → home ≡ home_in d (skips (how_many_rights + 4) s) → cur ≡ current_in d home (hex_in 2 (skips how_many_rights s))
     → Fills (hex_in 16 (skips (suc how_many_rights) s)) (replicate 16 0) n left → (x : Session) → x ≡ record { rights = rights; current = cur; challenge = left; len = n; folder = home } → x ≡ session_in d s
@@ -89,22 +91,14 @@ unfolding response_in
 response-is s rest mode n left x m e f h =
     h ∙ rw (hex-front response_size rest n left f, take_all response_size (hex_in response_size rest) (hex-few response_size rest), m, e)
 
--- a file's counts
-module _ (f r : File) (n newest : ℕ) where
-  pub counted-variable : f.kind ≡ variable → r ≡ with_used (with_newest f 0 newest) n → r ≡ counted f n newest
-  counted-variable e h = h ∙ rw (eq-eqb f.kind variable e)
-
-  pub counted-other : (f.kind ≡ variable → ⊥) → r ≡ with_newest f (n % 256) newest → r ≡ counted f n newest
-  counted-other e h = h ∙ rw (ne_eqb f.kind variable e)
-
-pub file-is : (s : List ℕ) (n m k newest : ℕ) (fid made : List ℕ) (f r : File) → Fills (hex_in 2 s) (replicate 2 0) n fid → Fills (hex_in 5 (skips 1 s)) (replicate 5 0) m made
+pub file-is : (s rest : List ℕ) (k newest : ℕ) (fid made : List ℕ) (f r : File) → fid ≡ laid (zeros 2) 0 (hex_in 2 s) → rest ≡ skips 1 s → made ≡ laid (zeros 5) 0 (hex_in 5 rest)
     → f ≡ new_file (byte fid 0) (byte fid 1) (byte made 0) (byte made 1) (byte made 2) (byte made 3) (byte made 4) → k ≡ number (skips 2 s) → newest ≡ small (skips 3 s) → r ≡ counted f k newest
     → r ≡ file_in s
 unfolding file_in
-file-is s n m k newest fid made f r a b e h l q =
-    let x = byte_of 2 s n fid in
-    let y = byte_of 5 (skips 1 s) m made in
-    let g : f ≡ file_of (hex_in 2 s) (hex_in 5 (skips 1 s)) = e ∙ rw (x 0 a, x 1 a, y 0 b, y 1 b, y 2 b, y 3 b, y 4 b) in
+file-is s rest k newest fid made f r a p b e h l q =
+    let x = byte_in 2 s fid in
+    let y = byte_in 5 rest made in
+    let g : f ≡ file_of (hex_in 2 s) (hex_in 5 (skips 1 s)) = e ∙ rw (x 0 a, x 1 a, y 0 b, y 1 b, y 2 b, y 3 b, y 4 b, p) in
     q ∙ rw (g, h, l)
 
 pub housed-is : (d : Directory) (s rest : List ℕ) (home : ℕ) (f r : File) → rest ≡ skips 4 s → home ≡ home_in d rest → f ≡ file_in s → r ≡ in_folder home f → r ≡ housed_in d s
@@ -132,9 +126,6 @@ card-loaded form s image left v a u t d ss rs js x hv ha hu ht l hs hr hj h = re
 -- the text of a sound card, drawn on a page that takes it
 abbrev size₀ : ℕ
 size₀ = longest new
-
-pub blank-page : length (replicate {A = ℕ} size₀ 0) ≡ size₀
-blank-page = length-replicate {A = ℕ} size₀ 0
 
 page-takes : (form : Form) (n : ℕ) → n ≤ longest form → n ≤ size₀
 page-takes true n h = h
@@ -176,31 +167,28 @@ module _ (form : Form) (c : Card) (area out : List ℕ) where
     unfolding to_text
     write-other r k o e = rw (eq-eqb (length area) area_size a, sym h ∙ k, o) (record { answer-is = e; left_is = refl })
 
-    module _ (k : t ≡ true) (o : of_form form c ≡ true) (blank : List ℕ) (b : length blank ≡ size₀) (n : ℕ) (drawn : List ℕ) (l : length drawn ≡ size₀) (w : Draws (text form c area) blank 0 n drawn) (q : Bool) (left : List ℕ)
-        (v : Reading (shows (length drawn) 0 n (length out)) (part 0 n drawn) out q left) where
-      good : sound c area ≡ true
-      good = sym h ∙ k
+  module _ (a : length area ≡ area_size) (good : sound c area ≡ true) (o : of_form form c ≡ true) (blank : List ℕ) (b : length blank ≡ size₀) (n : ℕ) (drawn : List ℕ) (l : length drawn ≡ size₀)
+      (w : Draws (text form c area) blank 0 n drawn) (q : Bool) (left : List ℕ) (v : Reading (shows (length drawn) 0 n (length out)) (part 0 n drawn) out q left) where
+    shown-is : shows (length drawn) 0 n (length out) ≡ leb (length (text form c area)) (length out)
+    unfolding shows
+    shown-is = rw (l, le-leb (0 + n) size₀ (omega (arith, drawn-low form c area good o blank b n drawn w)), drawn-length form c area good o blank b n drawn w)
 
-      shown-is : shows (length drawn) 0 n (length out) ≡ leb (length (text form c area)) (length out)
-      unfolding shows
-      shown-is = rw (l, le-leb (0 + n) size₀ (omega (arith, drawn-low form c area good o blank b n drawn w)), drawn-length form c area good o blank b n drawn w)
+    part-is : part 0 n drawn ≡ text form c area
+    unfolding part
+    part-is = drawn-text form c area good o blank b n drawn w
 
-      part-is : part 0 n drawn ≡ text form c area
-      unfolding part
-      part-is = drawn-text form c area good o blank b n drawn w
+    pub write-short : (r : Answer) → q ≡ false → r ≡ answer 10 c 0 → Writes (to_text form c area out) r left
+    unfolding to_text shown
+    write-short r z e =
+        let s : leb (length (text form c area)) (length out) ≡ false = sym shown-is ∙ sym v.answer-is ∙ z in
+        rw (eq-eqb (length area) area_size a, good, o, s) (record { answer-is = e; left_is = rw (shown-is, s) at v.left_is })
 
-      pub write-short : (r : Answer) → q ≡ false → r ≡ answer 10 c 0 → Writes (to_text form c area out) r left
-      unfolding to_text shown
-      write-short r z e =
-          let s : leb (length (text form c area)) (length out) ≡ false = sym shown-is ∙ sym v.answer-is ∙ z in
-          rw (eq-eqb (length area) area_size a, good, o, s) (record { answer-is = e; left_is = rw (shown-is, s) at v.left_is })
-
-      pub write_done : (r : Answer) → q ≡ true → r ≡ answer 0 c n → Writes (to_text form c area out) r left
-      unfolding to_text shown
-      write_done r z e =
-          let s : leb (length (text form c area)) (length out) ≡ true = sym shown-is ∙ sym v.answer-is ∙ z in
-          rw (eq-eqb (length area) area_size a, good, o, s)
-          (record { answer-is = e ∙ ap (answer 0 c) (drawn-length form c area good o blank b n drawn w); left_is = rw (shown-is, s, part-is) at v.left_is })
+    pub write_done : (r : Answer) → q ≡ true → r ≡ answer 0 c n → Writes (to_text form c area out) r left
+    unfolding to_text shown
+    write_done r z e =
+        let s : leb (length (text form c area)) (length out) ≡ true = sym shown-is ∙ sym v.answer-is ∙ z in
+        rw (eq-eqb (length area) area_size a, good, o, s)
+        (record { answer-is = e ∙ ap (answer 0 c) (drawn-length form c area good o blank b n drawn w); left_is = rw (shown-is, s, part-is) at v.left_is })
 
 -- the reader
 over-all : (xs ys : List ℕ) → length ys ≡ length xs → over xs ys ≡ xs
@@ -263,28 +251,20 @@ module _ (given wanted : Form) (s out : List ℕ) (c : Card) (image : List ℕ) 
   pub given_so : of_form given c ≡ true
   given_so = read-of-form given s (zeros area_size) some c image w t h
 
-  module _ (k : t ≡ true) (n : ℕ) (drawn : List ℕ) (d : Draws (text given c image) (replicate size₀ 0) 0 n drawn) (q : Bool) (m : q ≡ same s (take n drawn)) where
-    same-is : q ≡ same s (text given c image)
-    same-is = m ∙ ap (same s) (drawn-text given c image (sym h ∙ k) given_so (replicate size₀ 0) blank-page n drawn d)
-
+  module _ (k : t ≡ true) (q : Bool) (m : q ≡ same s (text given c image)) where
     pub convert-other : (r : Answer) → q ≡ false → r ≡ answer 11 blank_card 0 → Writes (converted given wanted s out) r out
-    convert-other r z e = refused-so r (accepts given s (zeros area_size) some c image w t h ∙ rw (sym h ∙ k, sym same-is ∙ z)) e
+    convert-other r z e = refused-so r (accepts given s (zeros area_size) some c image w t h ∙ rw (sym h ∙ k, sym m ∙ z)) e
 
-    module _ (y : q ≡ true) (u : Bool) (f : u ≡ of_form wanted c) where
+    module _ (y : q ≡ true) where
       done-is : to_text wanted c image out ≡ converted given wanted s out
       unfolding converted
       done-is =
-          let a : accepted given s ≡ true = accepts given s (zeros area_size) some c image w t h ∙ rw (sym h ∙ k, sym same-is ∙ y) in
+          let a : accepted given s ≡ true = accepts given s (zeros area_size) some c image w t h ∙ rw (sym h ∙ k, sym m ∙ y) in
           let i : image ≡ area_in given s = image-is given s (zeros area_size) some c image w t h in
           rw (a, ← w.card-is, ← i)
 
-      pub convert-13 : (r : Answer) → u ≡ false → r ≡ answer 13 c 0 → Writes (converted given wanted s out) r out
-      convert-13 r z e = rw (← done-is) (write-other wanted c image out image-size t h r k (sym f ∙ z) e)
+      pub convert-13 : (u : Bool) → u ≡ of_form wanted c → (r : Answer) → u ≡ false → r ≡ answer 13 c 0 → Writes (converted given wanted s out) r out
+      convert-13 u f r z e = rw (← done-is) (write-other wanted c image out image-size t h r k (sym f ∙ z) e)
 
-      module _ (o : u ≡ true) (l₀ : length drawn ≡ size₀) (n' : ℕ) (last : List ℕ) (l : length last ≡ size₀) (d' : Draws (text wanted c image) drawn 0 n' last) (q' : Bool) (left : List ℕ)
-          (v : Reading (shows (length last) 0 n' (length out)) (part 0 n' last) out q' left) where
-        pub convert-short : (r : Answer) → q' ≡ false → r ≡ answer 10 c 0 → Writes (converted given wanted s out) r left
-        convert-short r z e = rw (← done-is) (write-short wanted c image out image-size t h k (sym f ∙ o) drawn l₀ n' last l d' q' left v r z e)
-
-        pub convert-done : (r : Answer) → q' ≡ true → r ≡ answer 0 c n' → Writes (converted given wanted s out) r left
-        convert-done r z e = rw (← done-is) (write_done wanted c image out image-size t h k (sym f ∙ o) drawn l₀ n' last l d' q' left v r z e)
+      pub convert-done : (r : Answer) (left : List ℕ) → Writes (to_text wanted c image out) r left → Writes (converted given wanted s out) r left
+      convert-done r left x = rw (← done-is) x

@@ -219,22 +219,11 @@ card_in form s = record {
 unfoldable pub area_in : Form → List ℕ → List ℕ
 area_in form s = laid (zeros area_size) 0 (bytes_in form most_files area_size (files_part form s))
 
--- what the code's reading functions return and leave: a position by what it leaves of the text
-pub record Reaches (s rest : List ℕ) (r : ℕ) : Type 0 where
-  pub rest-is : drop r s ≡ rest
-  pub inside : r ≤ length s
-
--- bytes read over the front of a buffer, and their number
+-- what the code's reading functions return and leave: bytes read over the front of a buffer, and their number
 pub record Fills (bytes out : List ℕ) (r : ℕ) (left : List ℕ) : Type 0 where
   pub count-is : r ≡ length bytes
   pub few : r ≤ length out
   pub left_is : left ≡ laid out 0 bytes
-
--- contents read into a buffer, and the position behind them
-pub record Loads (n : ℕ) (s rest image : List ℕ) (to r : ℕ) (left : List ℕ) : Type 0 where
-  pub rest-is : drop r s ≡ behind (lines_for n) n rest
-  pub inside : r ≤ length s
-  pub left_is : left ≡ laid image to (contents_in n rest)
 
 -- files read: the directory, and their bytes
 pub record LoadsAll (form : Form) (d : Directory) (s image : List ℕ) (r : Directory) (left : List ℕ) : Type 0 where

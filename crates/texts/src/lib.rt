@@ -10,6 +10,8 @@ pub mod calls; // calls.rt: the writer and the reader
 pub const TEXT_SIZE: usize = 9559;
 
 // The two forms of a text: with directories, and without.
-const NEW: bool = true;
-
-const OLD: bool = false;
+#[derive(Clone, Copy)]
+enum Form {
+    New,
+    Old,
+}

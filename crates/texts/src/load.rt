@@ -1,15 +1,18 @@
 // What a text says, field by field.
-ghost use Rattle.std.specs.Prelude.{◌≡◌, [], ◌∷◌, ◌+◌, ◌≤◌, leb, length, drop, replicate};
+ghost use Rattle.std.specs.Prelude.{◌≡◌, [], ◌∷◌, ◌+◌, ◌≤◌, leb, length, replicate};
 ghost use Rattle.files.specs.Words.{every};
+ghost use Rattle.files.specs.Part.{zeros};
 ghost use Rattle.files.specs.State.{blank_file};
 ghost use Rattle.files.specs.Create.{area_size};
-ghost use Rattle.texts.specs.Reading.{hex_in, tries_in, credential_in, home_in, past_home, current_in, rights_in, session_in, response_in, counted, file_in, housed_in, contents_part, folder_next, folder_in, folders_in, most_folders_of, foldered, folders_part, length_for, Reaches, Loads, LoadsAll, LoadsDirectory, LoadsCard};
+ghost use Rattle.texts.specs.Forms.{is_new};
+ghost use Rattle.texts.specs.Text.{lines_for};
+ghost use Rattle.texts.specs.Reading.{hex_in, tries_in, credential_in, home_in, past_home, current_in, rights_in, session_in, response_in, counted, file_in, housed_in, behind, contents_in, contents_part, folder_next, folder_in, folders_in, most_folders_of, foldered, folders_part, laid, length_for, LoadsAll, LoadsDirectory, LoadsCard};
 
-use crate::scan::{byte_at, ends, fields, from, hex_in, number_in, pairs_in, skips, small_in};
+use crate::Form;
+use crate::scan::{byte_at, ends, fields, hex_in, number_in, pairs_in, past, skip, small_in};
 use card::state::{no_journal, response_of};
-use files::and_or::both;
 use files::find::{find_fid, find_folder};
-use files::numbers::{fewer, two, wide};
+use files::numbers::two;
 use files::sizes::{VARIABLE, size};
 use files::state::{
     added, added_folder, in_folder, new_file, new_folder, no_files, with_newest, with_used,
@@ -38,24 +41,31 @@ fn credential_in(s: &[u8]) -> Credential
     }
 }
 
+// The first N bytes of a field; those that are not there are 00.
+fn bytes_in<const N: usize>(s: &[u8]) -> [u8; N]
+    ensures { result ≡ laid (zeros N) 0 (hex_in N s.now) }
+{
+    let mut bytes = [0u8; N];
+    hex_in(s, &mut bytes);
+    bytes
+}
+
 // The directory of a FID, 0 for the root.
 fn home_in(d: Directory, s: &[u8]) -> u8
     ensures { result ≡ home_in d s.now }
 {
-    let mut fid = [0u8; 2];
-    hex_in(s, &mut fid);
+    let fid = bytes_in::<2>(s);
     find_folder(d, two(fid[0], fid[1]) as u16)
 }
 
 // Behind the directory's FID, which only the new form has.
-fn past_home(form: bool, s: &[u8], at: usize) -> usize
-    requires { at ≤ length s.now }
-    ensures { Reaches s.now (past_home form (drop at s.now)) result }
+fn past_home(form: Form, s: &[u8]) -> &[u8]
+    ensures { result.now ≡ past_home (is_new form) s.now }
 {
-    if form {
-        return skips(s, at, 1);
+    match form {
+        Form::New => skip(s),
+        Form::Old => s,
     }
-    at
 }
 
 // The file of a FID in a directory; none where there is no FID.
@@ -119,10 +129,8 @@ fn file_in(s: &[u8]) -> File
 {
     let n = number_in(fields(s, 2)) as u16;
     let newest = small_in(fields(s, 3));
-    let mut fid = [0u8; 2];
-    hex_in(s, &mut fid);
-    let mut made = [0u8; 5];
-    hex_in(fields(s, 1), &mut made);
+    let fid = bytes_in::<2>(s);
+    let made = bytes_in::<5>(fields(s, 1));
     let f = new_file(fid[0], fid[1], made[0], made[1], made[2], made[3], made[4]);
     counted(f, n, newest)
 }
@@ -135,28 +143,29 @@ fn housed_in(d: Directory, s: &[u8]) -> File
     in_folder(home, file_in(s))
 }
 
-// Behind the line of the file that starts at an index.
-fn contents_at(form: bool, s: &[u8], at: usize) -> usize
-    requires { at ≤ length s.now }
-    ensures { Reaches s.now (contents_part form (drop at s.now)) result }
+// Behind a file's line.
+fn contents_part(form: Form, s: &[u8]) -> &[u8]
+    ensures { result.now ≡ contents_part (is_new form) s.now }
 {
-    past_home(form, s, skips(s, at, 4))
+    past_home(form, fields(s, 4))
 }
 
-// n bytes of contents into a buffer; the index behind them.
-fn contents_in(s: &[u8], at: usize, n: usize, image: &mut [u8], to: usize) -> usize
-    requires { (at + length_for n ≤ length s.now) × (to + n ≤ length image.old) }
-    ensures { Loads n s.now (drop at s.now) image.old to result image.new }
+// n bytes of contents into a buffer; what stands behind them.
+fn contents_in<'a>(s: &'a [u8], n: usize, image: &mut [u8], to: usize) -> &'a [u8]
+    requires { (length_for n ≤ length s.now) × (to + n ≤ length image.old) }
+    ensures rest { result.now ≡ behind (lines_for n) n s.now }
+    ensures image { image.new ≡ laid image.old to (contents_in n s.now) }
 {
-    let mut q = at;
+    let mut rest = s;
     let mut i: usize = 0;
+    // No step_by: the last row may be shorter, and i is never past n.
     while i < n {
-        let m = fewer(32, n - i);
-        pairs_in(s, q, m, image, to + i);
-        q += m + m + 1;
+        let m = (n - i).min(32);
+        pairs_in(rest, m, image, to + i);
+        rest = past(rest, m + m + 1);
         i += m;
     }
-    q
+    rest
 }
 
 // So many bytes of text n bytes take in their lines.
@@ -172,7 +181,7 @@ fn goes_on(left: usize, n: usize, room: usize, behind: usize) -> bool
     requires { n ≤ 65535 }
     ensures { result ≡ every (leb 1 left ∷ leb n room ∷ leb (length_for n) behind ∷ []) }
 {
-    both(1 <= left, both(n <= room, length_for(n) <= behind))
+    1 <= left && n <= room && length_for(n) <= behind
 }
 
 // A directory's line comes next: its second field has two digits.
@@ -185,89 +194,81 @@ fn folder_next(s: &[u8]) -> bool
 fn folder_in(s: &[u8]) -> Folder
     ensures { result ≡ folder_in s.now }
 {
-    let mut fid = [0u8; 2];
-    hex_in(s, &mut fid);
-    let mut right = [0u8; 1];
-    hex_in(fields(s, 1), &mut right);
+    let fid = bytes_in::<2>(s);
+    let right = bytes_in::<1>(fields(s, 1));
     new_folder(fid[0], fid[1], right[0])
 }
 
 // So many directories are read at most: the old form has none.
-fn most_folders(form: bool) -> usize
-    ensures { (result ≡ most_folders_of form) × (result ≤ 4) }
+fn most_folders(form: Form) -> usize
+    ensures { (result ≡ most_folders_of (is_new form)) × (result ≤ 4) }
 {
-    if form { 4 } else { 0 }
+    match form {
+        Form::New => 4,
+        Form::Old => 0,
+    }
 }
 
 // The directories, as far as the text goes on with them.
-fn folders_in(form: bool, s: &[u8]) -> Directory
-    ensures { result ≡ foldered (folders_in (most_folders_of form) s.now) }
+fn folders_in(form: Form, s: &[u8]) -> Directory
+    ensures { result ≡ foldered (folders_in (most_folders_of (is_new form)) s.now) }
 {
-    let most = most_folders(form);
     let mut d = no_files();
-    let mut at: usize = 0;
-    let mut i: usize = 0;
-    while i < most {
-        let rest = from(s, at);
+    let mut rest = s;
+    for _ in 0..most_folders(form) {
         if !folder_next(rest) {
             return d;
         }
-        let next = added_folder(d, folder_in(rest));
-        d = next;
-        at = skips(s, at, 2);
-        i += 1;
+        d = added_folder(d, folder_in(rest));
+        rest = fields(rest, 2);
     }
     d
 }
 
 // The files, as far as the text goes on with them, and their bytes.
-fn files_in(form: bool, given: Directory, s: &[u8], image: &mut [u8]) -> Directory
+fn files_in(form: Form, given: Directory, s: &[u8], image: &mut [u8]) -> Directory
     requires { (given.files ≡ replicate 16 blank_file) × (given.count ≡ 0) }
-    ensures { LoadsAll form given s.now image.old result image.new }
+    ensures { LoadsAll (is_new form) given s.now image.old result image.new }
 {
     let mut d = given;
-    let mut at: usize = 0;
+    let mut rest = s;
     let mut to: usize = 0;
-    let mut i: usize = 0;
-    while i < 16 {
-        let f = housed_in(given, from(s, at));
+    for _ in 0..16usize {
+        let f = housed_in(given, rest);
         let n = size(f);
-        let start = contents_at(form, s, at);
-        if !goes_on(s.len() - at, n, image.len() - to, s.len() - start) {
+        let lines = contents_part(form, rest);
+        if !goes_on(rest.len(), n, image.len() - to, lines.len()) {
             return d;
         }
-        let next = added(d, f);
-        d = next;
-        at = contents_in(s, start, n, image, to);
+        d = added(d, f);
+        rest = contents_in(lines, n, image, to);
         to += n;
-        i += 1;
     }
     d
 }
 
 // Behind the session's line.
-fn lines_in(form: bool, s: &[u8]) -> &[u8]
-    ensures { result.now ≡ folders_part form s.now }
+fn lines_in(form: Form, s: &[u8]) -> &[u8]
+    ensures { result.now ≡ folders_part (is_new form) s.now }
 {
     let rest = fields(s, 3 * CREDENTIALS);
-    let at = skips(rest, 0, RIGHTS + 4);
-    from(rest, past_home(form, rest, at))
+    past_home(form, fields(rest, RIGHTS + 4))
 }
 
 // Directories and files.
-fn directory_in(form: bool, s: &[u8], image: &mut [u8]) -> Directory
+fn directory_in(form: Form, s: &[u8], image: &mut [u8]) -> Directory
     requires { length image.old ≡ area_size }
-    ensures { LoadsDirectory form s.now image.old result image.new }
+    ensures { LoadsDirectory (is_new form) s.now image.old result image.new }
 {
     let lines = lines_in(form, s);
     let given = folders_in(form, lines);
-    let n = wide(given.number);
+    let n = usize::from(given.number);
     files_in(form, given, fields(lines, n + n), image)
 }
 
-pub(crate) fn card_in(form: bool, s: &[u8], image: &mut [u8]) -> Card
+pub(crate) fn card_in(form: Form, s: &[u8], image: &mut [u8]) -> Card
     requires { length image.old ≡ area_size }
-    ensures { LoadsCard form s.now image.old result image.new }
+    ensures { LoadsCard (is_new form) s.now image.old result image.new }
 {
     let device = credential_in(s);
     let admin = credential_in(fields(s, 3));

@@ -1,15 +1,17 @@
 // The lines of a card.
-ghost use Rattle.std.specs.Prelude.{◌≡◌, cond, [], ◌∷◌, ◌++◌, length, take, get_or, ◌+◌, ◌<◌, min};
+ghost use Rattle.std.specs.Prelude.{◌≡◌, cond, [], ◌∷◌, ◌++◌, take, flat_map};
 ghost use Rattle.digits.specs.Digits.{tab, newline, ended, decimal, hex_of, or_dash};
 ghost use Rattle.files.specs.Words.{is_zero, Bounded};
-ghost use Rattle.files.specs.Directory.{used, file_at, folder_at};
-ghost use Rattle.rules.specs.State.{how_many_rights, wait_count};
+ghost use Rattle.files.specs.Directory.{used};
+ghost use Rattle.rules.specs.State.{wait_count};
+ghost use Rattle.texts.specs.Forms.{is_new};
 ghost use Rattle.texts.specs.Text.{home_fid, parting, tail, credential_line, credential_lines, session_line, folder_line, folder_lines, folder_count, held_or_used, file_line, contents, files_text, text};
 ghost use Rattle.digits.specs.Page.{Draws};
 
+use crate::Form;
 use digits::page::{hex_field, number_field, put, put_hex};
 use digits::{NEWLINE, TAB};
-use files::numbers::{fewer, two, wide};
+use files::numbers::two;
 use files::places::{file, folder, used};
 use files::record::bytes_used;
 use files::sizes::{VARIABLE, size};
@@ -20,7 +22,7 @@ use rules::{ADMIN, Card, Credential, DEVICE, Response, Session, TRANSPORT, USER}
 fn front_field(out: &mut [u8], at: usize, bytes: &[u8], n: usize, end: u8) -> usize
     ensures { Draws (ended end (or_dash (take n bytes.now))) out.old at result out.new }
 {
-    let m = fewer(n, bytes.len());
+    let m = n.min(bytes.len());
     hex_field(out, at, &bytes[..m], end)
 }
 
@@ -29,16 +31,19 @@ fn put_credential(out: &mut [u8], at: usize, x: Credential) -> usize
     ensures { Draws (credential_line x) out.old at result out.new }
 {
     let value = x.value;
-    let a = front_field(out, at, &value, wide(x.len), TAB);
-    let b = number_field(out, a, x.tries.limit as u32, TAB);
-    number_field(out, b, x.tries.left as u32, NEWLINE)
+    let a = front_field(out, at, &value, usize::from(x.len), TAB);
+    let b = number_field(out, a, u32::from(x.tries.limit), TAB);
+    number_field(out, b, u32::from(x.tries.left), NEWLINE)
 }
 
 // The byte behind the field before the directory's FID, which only the new form has.
-fn separator(form: bool) -> u8
-    ensures { result ≡ parting form }
+fn separator(form: Form) -> u8
+    ensures { result ≡ parting (is_new form) }
 {
-    if form { TAB } else { NEWLINE }
+    match form {
+        Form::New => TAB,
+        Form::Old => NEWLINE,
+    }
 }
 
 // A directory's FID, 3F00 for the root.
@@ -53,14 +58,16 @@ fn home_fid(d: Directory, place: u8) -> [u8; 2]
 }
 
 // What stands behind the separator.
-fn put_home(form: bool, out: &mut [u8], at: usize, d: Directory, place: u8) -> usize
-    ensures { Draws (tail form d place) out.old at result out.new }
+fn put_home(form: Form, out: &mut [u8], at: usize, d: Directory, place: u8) -> usize
+    ensures { Draws (tail (is_new form) d place) out.old at result out.new }
 {
-    if !form {
-        return at;
+    match form {
+        Form::New => {
+            let fid = home_fid(d, place);
+            hex_field(out, at, &fid, NEWLINE)
+        }
+        Form::Old => at,
     }
-    let fid = home_fid(d, place);
-    hex_field(out, at, &fid, NEWLINE)
 }
 
 // Two bytes of FID, none for no file.
@@ -70,20 +77,22 @@ fn fid_length(place: u8) -> usize
     if place == 0 { 0 } else { 2 }
 }
 
-// The right of a credential, as 0 or 1.
-fn put_right(out: &mut [u8], at: usize, s: Session, n: usize) -> usize
-    requires { n < how_many_rights }
-    ensures { Draws (ended tab (decimal (get_or s.rights n 0))) out.old at result out.new }
+// The rights of the credentials, each as 0 or 1.
+fn put_rights(out: &mut [u8], at: usize, rights: &[u8]) -> usize
+    ensures { Draws (flat_map (λ r. ended tab (decimal r)) rights.now) out.old at result out.new }
 {
-    let right = s.rights[n];
-    number_field(out, at, right as u32, TAB)
+    let mut q = at;
+    for right in rights {
+        q = number_field(out, q, u32::from(*right), TAB);
+    }
+    q
 }
 
 fn put_challenge(out: &mut [u8], at: usize, s: Session) -> usize
     ensures { Draws (ended tab (or_dash (take s.len s.challenge))) out.old at result out.new }
 {
     let challenge = s.challenge;
-    front_field(out, at, &challenge, wide(s.len), TAB)
+    front_field(out, at, &challenge, usize::from(s.len), TAB)
 }
 
 // Mode, and the bytes that wait.
@@ -92,24 +101,22 @@ fn put_response(out: &mut [u8], at: usize, x: Response, end: u8) -> usize
 {
     let bytes = x.bytes;
     let n = two(x.count1, x.count2);
-    let a = number_field(out, at, x.mode as u32, TAB);
+    let a = number_field(out, at, u32::from(x.mode), TAB);
     front_field(out, a, &bytes, n, end)
 }
 
-fn put_session(form: bool, out: &mut [u8], at: usize, card: Card) -> usize
-    ensures { Draws (session_line form card) out.old at result out.new }
+fn put_session(form: Form, out: &mut [u8], at: usize, card: Card) -> usize
+    ensures { Draws (session_line (is_new form) card) out.old at result out.new }
 {
     let session = card.session;
     let f = file(card.directory, session.current);
     let fid = [f.fid1, f.fid2];
     let n = fid_length(session.current);
-    let a = put_right(out, at, session, DEVICE);
-    let b = put_right(out, a, session, ADMIN);
-    let c = put_right(out, b, session, USER);
-    let d = front_field(out, c, &fid, n, TAB);
-    let e = put_challenge(out, d, session);
-    let g = put_response(out, e, card.response, separator(form));
-    put_home(form, out, g, card.directory, session.folder)
+    let a = put_rights(out, at, &session.rights);
+    let b = front_field(out, a, &fid, n, TAB);
+    let c = put_challenge(out, b, session);
+    let e = put_response(out, c, card.response, separator(form));
+    put_home(form, out, e, card.directory, session.folder)
 }
 
 // A directory: FID, creation right.
@@ -122,25 +129,14 @@ fn put_folder(out: &mut [u8], at: usize, x: Folder) -> usize
     hex_field(out, a, &right, NEWLINE)
 }
 
-fn folder_at(d: Directory, i: usize) -> Folder
-    requires { i < 4 }
-    ensures { (result ≡ folder_at d.folders i) × (length d.folders ≡ 4) }
-{
-    let x = d.folders[i];
-    x
-}
-
 // Each directory, as made.
 fn put_folders(out: &mut [u8], at: usize, d: Directory) -> usize
     ensures { Draws (folder_lines (take (folder_count d) d.folders)) out.old at result out.new }
 {
-    let n = fewer(wide(d.number), 4);
+    let n = usize::from(d.number).min(4);
     let mut q = at;
-    let mut i: usize = 0;
-    while i < n {
-        let x = folder_at(d, i);
-        q = put_folder(out, q, x);
-        i += 1;
+    for x in &d.folders[..n] {
+        q = put_folder(out, q, *x);
     }
     q
 }
@@ -152,19 +148,19 @@ fn held_or_used(f: File) -> u32
     if f.kind == VARIABLE {
         return bytes_used(f) as u32;
     }
-    f.held as u32
+    u32::from(f.held)
 }
 
 // FID, CREATE's five bytes, records held, newest place, its directory.
-fn put_file(form: bool, out: &mut [u8], at: usize, d: Directory, f: File) -> usize
-    ensures { Draws (file_line form d f) out.old at result out.new }
+fn put_file(form: Form, out: &mut [u8], at: usize, d: Directory, f: File) -> usize
+    ensures { Draws (file_line (is_new form) d f) out.old at result out.new }
 {
     let fid = [f.fid1, f.fid2];
     let made = [f.kind, f.size1, f.size2, f.read, f.write];
     let a = hex_field(out, at, &fid, TAB);
     let b = hex_field(out, a, &made, TAB);
     let c = number_field(out, b, held_or_used(f), TAB);
-    let e = number_field(out, c, f.newest as u32, separator(form));
+    let e = number_field(out, c, u32::from(f.newest), separator(form));
     put_home(form, out, e, d, f.folder)
 }
 
@@ -176,61 +172,34 @@ fn put_row(out: &mut [u8], at: usize, bytes: &[u8]) -> usize
     put(out, q, NEWLINE)
 }
 
-// n on from an index, or the end.
-pub(crate) fn ahead(at: usize, n: usize, end: usize) -> usize
-    ensures { result ≡ min (at + n) end }
-{
-    if at < end {
-        if n < end - at {
-            return at + n;
-        }
-    }
-    end
-}
-
 // Contents, 32 bytes a line, the rest in the last.
 fn put_contents(out: &mut [u8], at: usize, bytes: &[u8]) -> usize
     ensures { Draws (contents bytes.now) out.old at result out.new }
 {
     let mut q = at;
-    let mut i: usize = 0;
-    while i < bytes.len() {
-        let end = ahead(i, 32, bytes.len());
-        q = put_row(out, q, &bytes[i..end]);
-        i = end;
+    for row in bytes.chunks(32) {
+        q = put_row(out, q, row);
     }
     q
 }
 
 // A file's line and its contents.
-fn put_whole(form: bool, out: &mut [u8], at: usize, d: Directory, f: File, bytes: &[u8]) -> usize
-    ensures { Draws (file_line form d f ++ contents bytes.now) out.old at result out.new }
+fn put_whole(form: Form, out: &mut [u8], at: usize, d: Directory, f: File, bytes: &[u8]) -> usize
+    ensures { Draws (file_line (is_new form) d f ++ contents bytes.now) out.old at result out.new }
 {
     let q = put_file(form, out, at, d, f);
     put_contents(out, q, bytes)
 }
 
-fn file_at(d: Directory, i: usize) -> File
-    requires { i < 16 }
-    ensures { (result ≡ file_at d.files i) × (length d.files ≡ 16) }
+fn put_files(form: Form, out: &mut [u8], at: usize, d: Directory, area: &[u8]) -> usize
+    ensures { Draws (files_text (is_new form) d (take (used d) d.files) area.now) out.old at result out.new }
 {
-    let f = d.files[i];
-    f
-}
-
-fn put_files(form: bool, out: &mut [u8], at: usize, d: Directory, area: &[u8]) -> usize
-    ensures { Draws (files_text form d (take (used d) d.files) area.now) out.old at result out.new }
-{
-    let n = used(d);
     let mut q = at;
-    let mut from: usize = 0;
-    let mut i: usize = 0;
-    while i < n {
-        let f = file_at(d, i);
-        let end = ahead(from, size(f), area.len());
-        q = put_whole(form, out, q, d, f, &area[from..end]);
-        from = end;
-        i += 1;
+    let mut rest = area;
+    for f in &d.files[..used(d)] {
+        let (bytes, more) = rest.split_at(size(*f).min(rest.len()));
+        q = put_whole(form, out, q, d, *f, bytes);
+        rest = more;
     }
     q
 }
@@ -249,8 +218,8 @@ fn put_credentials(out: &mut [u8], at: usize, card: Card) -> usize
 }
 
 // The whole text.
-pub(crate) fn put_card(form: bool, out: &mut [u8], card: Card, area: &[u8]) -> usize
-    ensures { Draws (text form card area.now) out.old 0 result out.new }
+pub(crate) fn put_card(form: Form, out: &mut [u8], card: Card, area: &[u8]) -> usize
+    ensures { Draws (text (is_new form) card area.now) out.old 0 result out.new }
 {
     let directory = card.directory;
     let a = put_credentials(out, 0, card);

@@ -15,6 +15,9 @@ pub follows-none : (f : Feed) → Follows f f
 unfolding fed_all
 follows-none f = record { bytes = []; is = refl }
 
+pub follows-fed : {f g : Feed} (piece : List ℕ) → g ≡ fed_all f piece → Follows f g
+follows-fed piece e = record { bytes = piece; is = e }
+
 pub follows-more : {f g h : Feed} → Follows f g → Follows g h → Follows f h
 follows-more {f} p q = record { bytes = p.bytes ++ q.bytes; is = q.is ∙ ap (λ (x : Feed). fed_all x q.bytes) p.is ∙ sym (fed-joined f p.bytes q.bytes) }
 

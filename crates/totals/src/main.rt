@@ -7,54 +7,24 @@ ghost use Rattle.totals.specs.Reading.{Follows, Reported};
 use alarms::feeding::{fed, start};
 use alarms::telling::told;
 use alarms::{Feed, OUT_SIZE};
-use files::and_or::both;
 use std::io::Read;
 
 // As many bytes are asked for at once.
 const CHUNK_SIZE: usize = 65536;
 
-// What is read so far, and whether to read on.
-#[derive(Clone, Copy)]
-struct Reading {
-    feed: Feed,
-    go: bool,
-}
-
-// How many bytes a read has put at the front of a chunk: none where the input has ended or cannot be read.
-fn read_once(input: &mut impl Read, chunk: &mut [u8]) -> usize
-    ensures { result ≤ length chunk.new }
+// Reads all there is, or up to a refusal. A proved loop has to end, and nothing says that the input does: no run uses up as many turns.
+fn read_all(input: &mut impl Read, first: Feed, chunk: &mut [u8]) -> Feed
+    ensures { Follows first result }
 {
-    match input.read(chunk) {
-        Ok(n) => n,
-        Err(_) => 0,
-    }
-}
-
-// Reads once. Reading ends with the input, and at a refusal.
-fn read_some(input: &mut impl Read, earlier: Reading, chunk: &mut [u8]) -> Reading
-    ensures { Follows earlier.feed result.feed }
-{
-    let n = read_once(input, chunk);
-    let feed = fed(earlier.feed, &chunk[..n]);
-    let go = both(n > 0, feed.scan.refusal == 0);
-    Reading { feed, go }
-}
-
-// A proved loop has to end, and nothing says that the input does: the turns are counted down from a number that no run uses up.
-fn read_all(input: &mut impl Read, first: Reading, chunk: &mut [u8]) -> Reading
-    ensures { Follows first.feed result.feed }
-{
-    let mut now = first;
-    let mut turns = u64::MAX;
-    while turns > 0 {
-        if !now.go {
-            return now;
+    let mut feed = first;
+    for _ in 0..u64::MAX {
+        let n = input.read(chunk).unwrap_or(0);
+        feed = fed(feed, &chunk[..n]);
+        if n == 0 || feed.scan.refusal != 0 {
+            break;
         }
-        let next = read_some(input, now, chunk);
-        now = next;
-        turns -= 1;
     }
-    now
+    feed
 }
 
 // Reads all there is, and puts the report down.
@@ -62,10 +32,8 @@ fn run(input: &mut impl Read, chunk: &mut [u8], out: &mut [u8]) -> usize
     requires { 16384 ≤ length out.old }
     ensures { Reported out.new result }
 {
-    let feed = start();
-    let first = Reading { feed, go: true };
-    let last = read_all(input, first, chunk);
-    told(last.feed, out)
+    let feed = read_all(input, start(), chunk);
+    told(feed, out)
 }
 
 fn main(rt: HostRuntime) {

@@ -1,11 +1,12 @@
-use mathlib.Core.Path.{◌∙◌}
-use native.Mathlib.Omega.{arith}
+use Rattle.std.proofs.Common.{◌∙◌, ap}
+use Rattle.std.specs.Int.{w64, from_le_bytes}
 use Rattle.cipher.proofs.States.{loaded}
 use Rattle.cipher.proofs.loaded.Goals as goal
 
 pub returns : goal.returns
-returns c = let lo = c in
-    let at = lo in
-    loaded at.args.s.now _ at.requires (λ i. omega (arith, at.shared_slice_known-1.given i))
-    (lo.joined-lo.ensures.0 ∙ lo.column_at.ensures) (lo.joined-lo.ensures.1 ∙ lo.column_at-2.ensures)
-    (c.joined-hi.ensures.0 ∙ c.column_at-3.ensures) (c.joined-hi.ensures.1 ∙ c.column_at-4.ensures)
+returns c =
+    let lo = rw c.unwrap.ensures at c.try_into.ensures.1 in
+    let hi = rw c.unwrap-2.ensures at c.try_into-2.ensures.1 in
+    loaded c.args.s.now _ c.requires (λ i. (c.type_inv.s i).fits)
+    (c.from_le_bytes.ensures ∙ ap (from_le_bytes w64) (lo.same ∙ c.split_at.ensures.front))
+    (c.from_le_bytes-2.ensures ∙ ap (from_le_bytes w64) (hi.same ∙ c.split_at.ensures.back))

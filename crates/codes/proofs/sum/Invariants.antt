@@ -1,12 +1,11 @@
-use Prim.Native.Nat.{◌≤◌, ◌-◌}
-use mathlib.Core.Path.{◌≡◌}
-use lib.ListN.{length, take}
+use Rattle.std.proofs.Common.{◌≡◌, ◌<◌, ◌≤◌, ℕ, length, get_or}
+use lib.Bits.{bit_xor}
 use Rattle.codes.specs.Padding.{padded}
-use Rattle.codes.specs.Chaining.{added}
 use Rattle.codes.proofs.sum.Given as goal
 
 abbrev pub invariant-loop-i : goal.invariant-loop-i
-invariant-loop-i l = (l.i ≤ 16) × (length l.before ≡ 16) × (length l.block ≡ 16) × (take l.i l.block ≡ added (take l.i l.before) (take l.i (padded l.rest)))
-
-abbrev pub decreases-loop-i : goal.decreases-loop-i
-decreases-loop-i l = 16 - l.i
+invariant-loop-i l = record {
+  long : length l.block ≡ 16;
+  added : (k : ℕ) → k < l.i → get_or l.block k 0 ≡ bit_xor (get_or l.fn.before k 0) (get_or (padded l.rest) k 0);
+  not_yet : (k : ℕ) → l.i ≤ k → get_or l.block k 0 ≡ get_or l.fn.before k 0;
+}

@@ -1,11 +1,13 @@
-use Rattle.stores.proofs.Changes.{byte-given, byte-length, byte-zero}
+use mathlib.Core.Path.{◌≡◌, ◌∙◌}
+use lib.ListN.{get_or}
+use borrow.Author.Rules.{rules}
+use Rattle.stores.proofs.Changes.{byte-given, byte-length}
 use Rattle.stores.proofs.value_byte.Goals as goal
 
-pub returns-then-i-given : goal.returns-then-i-given
-returns-then-i-given c = let s = c in byte-given s.args.given.now s.requires s.args.i c.if-i-given.true
-
 pub returns-then-i-eq-LENGTH : goal.returns-then-i-eq-LENGTH
-returns-then-i-eq-LENGTH c = let s = c in byte-length s.args.given.now s.requires s.args.i c.if-i-eq-LENGTH.true
+returns-then-i-eq-LENGTH c = byte-length c.args.given.now c.requires c.args.i c.if-i-eq-LENGTH.true
 
 pub returns : goal.returns
-returns c = let s = c in byte-zero s.args.given.now s.requires s.args.i c.if-i-given.false c.if-i-eq-LENGTH.false
+returns c = let a = c.args in
+    let e : c.unwrap_or.result ≡ get_or a.given.now a.i 0 = search rules in
+    e ∙ byte-given a.given.now c.requires a.i c.if-i-eq-LENGTH.false

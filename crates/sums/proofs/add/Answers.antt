@@ -12,4 +12,4 @@ place-i-requires c = good-bounds _ (sym c.is_good.ensures ∙ c.if-not-is_good.f
 
 pub returns : goal.returns
 unfolding plus more
-returns c = rw (c.wide32-n.ensures.is, c.wide32.ensures.is, c.wide16.ensures.is, c.place-i.ensures.is, sym c.is_good.ensures ∙ c.if-not-is_good.false)
+returns c = rw (c.place-i.ensures.is, c.from.ensures, sym c.is_good.ensures ∙ c.if-not-is_good.false)

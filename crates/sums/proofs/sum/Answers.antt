@@ -1,26 +1,24 @@
-use Rattle.std.proofs.Common.{◌≡◌, ◌<◌, length, arith}
-use mathlib.Core.Path.{refl, ap, ◌∙◌}
-use lib.ListN.{take, get_or}
-use Rattle.sums.specs.Kept.{plus, sum_of, no_alarm, answered}
-use Rattle.sums.proofs.Adding.{sum_more, sum-taken}
+use Rattle.std.proofs.Common.{false, get_or, arith, refl, sym, ap, ◌∙◌}
+use lib.Seq.{take_all}
+use Rattle.sums.specs.Kept.{plus, sum_of, no_alarm, answer}
+use Rattle.sums.proofs.Adding.{sum_more, list-taken, list-refused}
 use Rattle.sums.proofs.sum.Goals as goal
 
-pub loop-i-init : goal.loop-i-init
+pub loop-a-init : goal.loop-a-init
 unfolding sum_of
-loop-i-init c = (omega arith, refl)
+loop-a-init c = refl
 
-pub loop-i-preserved : goal.loop-i-preserved
-loop-i-preserved c =
-    let l = c.loop-i in
+pub loop-a-preserved : goal.loop-a-preserved
+loop-a-preserved c =
+    let i = c.loop-a.a-index in
     let ys = c.args.alarms.now in
-    let inside : l.i < length ys = omega arith in
-    (omega arith, c.add-r.ensures ∙ ap (λ t. plus t (get_or ys l.i no_alarm)) l.invariant.1 ∙ sum_more c.args.t ys l.i no_alarm inside)
+    c.add-totals.ensures ∙ ap (λ t. plus t (get_or ys i no_alarm)) c.loop-a.invariant ∙ sum_more c.args.t ys i no_alarm c.loop-a-test.true
+
+pub returns-then-alarms-gt1000 : goal.returns-then-alarms-gt1000
+returns-then-alarms-gt1000 c = sym (list-refused c.args.t c.args.alarms.now c.if-alarms-gt1000.true)
 
 pub returns : goal.returns
 returns c =
-    let l = c.loop-i in
     let ys = c.args.alarms.now in
-    let all : l.i ≡ c.taken-n.result = omega arith in
-    c.answered.ensures
-    ∙ ap (λ t. answered t (length ys)) (l.invariant.1 ∙ ap (λ k. sum_of c.args.t (take k ys)) (all ∙ c.taken-n.ensures.is))
-    ∙ sum-taken c.args.t ys
+    ap (λ t. answer t false) (c.loop-a.invariant ∙ ap (sum_of c.args.t) (take_all c.loop-a.a-index ys (omega arith)))
+    ∙ sym (list-taken c.args.t ys c.if-alarms-gt1000.false)

@@ -1,9 +1,11 @@
-use Rattle.totals.proofs.Read.{follows-none, follows-more}
-use borrow.Author.Rules.{rules}
+use Rattle.totals.proofs.Read.{follows-none, follows-more, follows-fed}
 use Rattle.totals.proofs.read_all.Goals as goal
 
-pub loop-turns-init : goal.loop-turns-init
-loop-turns-init g c = (search rules, follows-none _)
+pub loop-init : goal.loop-init
+loop-init g c = follows-none _
 
-pub loop-turns-preserved : goal.loop-turns-preserved
-loop-turns-preserved g c = (search rules, follows-more c.loop-turns.invariant.1 c.read_some-next.ensures)
+pub loop-preserved : goal.loop-preserved
+loop-preserved g c = follows-more c.loop.invariant (follows-fed _ c.fed-feed.ensures)
+
+pub returns-then-n-eq0 : goal.returns-then-n-eq0
+returns-then-n-eq0 g c = follows-more c.loop.invariant (follows-fed _ c.fed-feed.ensures)

@@ -1,20 +1,27 @@
-use mathlib.Core.Path.{refl, sym, ap, ◌∙◌}
+use mathlib.Core.Path.{sym, ap, ◌∙◌}
 use Rattle.sums.specs.declared.Summed.{Summed}
-use Rattle.alarms.proofs.Fed.{fed-skip, fed-room, fed-full, fed-end}
-use borrow.Author.Rules.{rules}
+use Rattle.alarms.specs.Feed.{fed_one, put}
+use borrow.Author.Tests.{eq-eqb, le-ltb}
+use Rattle.alarms.proofs.Fed.{fed_more, fed_end}
+use Rattle.std.proofs.Common.{arith}
+use Rattle.std.proofs.lemmas.Bool.Decides.{nat_tests}
 use Rattle.alarms.proofs.feeding.fed.Goals as goal
+use Rattle.alarms.proofs.feeding.fed.Goals.{then-feed-ge1000, else-feed-ge1000}
 
-pub loop-i-init : goal.loop-i-init
-loop-i-init c = (search rules, refl)
+pub loop-b-preserved-then-feed-ne-DONE : goal.loop-b-preserved-then-feed-ne-DONE
+unfolding fed_one
+loop-b-preserved-then-feed-ne-DONE c = fed_more c.loop-b.feed _ c.args.piece.now c.loop-b.b-index c.loop-b-test.true (grind (arith, nat_tests)) ∙ c.loop-b.invariant
 
-pub loop-i-preserved-then-scan-ne-DONE : goal.loop-i-preserved-then-scan-ne-DONE
-loop-i-preserved-then-scan-ne-DONE c = let l = c.loop-i in (search rules, fed-skip c.args.piece.now l.i _ _ _ _ _ c.loop-i-test.true c.scanned-next.ensures c.if-scan-ne-DONE.true ∙ l.invariant.1)
-
-pub loop-i-preserved-then-held-lt1000 : goal.loop-i-preserved-then-held-lt1000
-loop-i-preserved-then-held-lt1000 c = let l = c.loop-i in (search rules, fed-room c.args.piece.now l.i _ _ _ _ _ c.loop-i-test.true c.scanned-next.ensures _ c.if-scan-ne-DONE.false c.alarm_of-a.ensures c.if-held-lt1000.true ∙ l.invariant.1)
-
-pub loop-i-preserved : goal.loop-i-preserved
-loop-i-preserved c = let l = c.loop-i in (search rules, fed-full c.args.piece.now l.i _ _ _ _ _ c.loop-i-test.true c.scanned-next.ensures _ _ _ c.if-scan-ne-DONE.false c.alarm_of-a.ensures c.if-held-lt1000.false (ap (λ (s : Summed). s.totals) c.all-before.ensures) c.no_batch-none.ensures ∙ l.invariant.1)
+pub loop-b-preserved : goal.loop-b-preserved
+unfolding fed_one put
+loop-b-preserved c =
+    fed_more c.loop-b.feed _ c.args.piece.now c.loop-b.b-index c.loop-b-test.true
+    (elim c.if-feed-ge1000.branch [
+      | then-feed-ge1000 w ↦
+          rw (c.alarm_of.ensures, w.feed-is, w.no_batch-feed.ensures, ap (λ (s : Summed). s.totals) w.all.ensures, ← c.scanned-feed.ensures, eq-eqb _ _ c.if-feed-ne-DONE.false, le-ltb _ _ w.if-feed-ge1000.true)
+      | else-feed-ge1000 w ↦ grind (arith, nat_tests)
+    ])
+    ∙ c.loop-b.invariant
 
 pub returns : goal.returns
-returns c = sym (fed-end _ c.args.piece.now c.loop-i.i c.loop-i-test.false) ∙ c.loop-i.invariant.1
+returns c = sym (fed_end _ c.args.piece.now c.loop-b.b-index c.loop-b-test.false) ∙ c.loop-b.invariant

@@ -1,12 +1,8 @@
-use Prim.Native.Nat.{◌-◌, ◌≤◌}
 use mathlib.Core.Path.{◌≡◌}
-use lib.ListN.{length, get_or}
+use lib.ListN.{get_or}
 use Rattle.alarms.specs.Report.{rows}
 use Rattle.digits.specs.Page.{page, draw}
 use Rattle.alarms.proofs.telling.put_rows.Given as goal
 
 abbrev pub invariant-loop-i : goal.invariant-loop-i
-invariant-loop-i l = (l.i ≤ 192) × (length l.out ≡ length l.initial.out) × (page l.out l.q ≡ draw (rows (λ k. get_or l.t.counts k 0) (λ k. get_or l.t.minutes k 0) l.i) (page l.initial.out l.at))
-
-abbrev pub decreases-loop-i : goal.decreases-loop-i
-decreases-loop-i l = 192 - l.i
+invariant-loop-i l = page l.out l.end ≡ draw (rows (λ k. get_or l.t.counts k 0) (λ k. get_or l.t.minutes k 0) l.i) (page l.initial.out l.at)

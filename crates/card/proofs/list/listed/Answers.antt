@@ -1,27 +1,20 @@
 use native.Mathlib.Omega.{arith}
-use Rattle.card.proofs.Rows.{hit, miss, past}
-use borrow.Author.Rules.{rules}
 use mathlib.Core.Path.{◌∙◌, sym}
+use Rattle.card.proofs.Rows.{hit, miss, past}
 use Rattle.rules.specs.List.{rows}
 use Rattle.card.proofs.list.listed.Goals as goal
 
-pub returns-then-both : goal.returns-then-both
+pub returns-then-class-cla : goal.returns-then-class-cla
 unfolding rows
-returns-then-both c = let at = c in
-    let args = at.args in
-    hit args.cla args.ins at.loop-i.i c.both.result c.both.ensures (omega arith) c.if-both.true ∙ sym at.loop-i.invariant.1
+returns-then-class-cla c = let a = c.args in
+    hit a.cla a.ins c.loop-class.class-index (omega arith) c.if-class-cla.true ∙ sym c.loop-class.invariant
 
-pub loop-i-smaller : goal.loop-i-smaller
+pub loop-class-preserved : goal.loop-class-preserved
 unfolding rows
-loop-i-smaller c = search rules
-
-pub loop-i-preserved : goal.loop-i-preserved
-unfolding rows
-loop-i-preserved c = let at = c in
-    let args = at.args in
-    (omega arith, at.loop-i.invariant.1 ∙ miss args.cla args.ins at.loop-i.i c.both.result c.both.ensures (omega arith) c.if-both.false)
+loop-class-preserved c = let a = c.args in
+    c.loop-class.invariant ∙ miss a.cla a.ins c.loop-class.class-index (omega arith) c.if-class-cla.false
 
 pub returns : goal.returns
 unfolding rows
-returns c = let args = c.args in
-    past args.cla args.ins c.loop-i.i (omega arith) ∙ sym c.loop-i.invariant.1
+returns c = let a = c.args in
+    past a.cla a.ins c.loop-class.class-index (omega arith) ∙ sym c.loop-class.invariant

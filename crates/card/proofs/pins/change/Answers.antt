@@ -10,6 +10,8 @@ use Rattle.rules.specs.Step.{touched}
 use Rattle.card.specs.Head.{command_of}
 use Rattle.card.proofs.Carrying.{leaves-same, refused-quietly}
 use Rattle.card.proofs.Outcomes.{change-checked, changed}
+use Rattle.card.specs.Checks.{checked}
+use Rattle.card.proofs.Checking.{passed, refused, refuses}
 use Rattle.card.proofs.pins.change.Goals as goal
 
 pub bounds-session-n : goal.bounds-session-n
@@ -18,22 +20,23 @@ bounds-session-n c = omega (arith, c.requires.low)
 pub with_credential-requires : goal.with_credential-requires
 with_credential-requires c = omega (arith, c.requires.low)
 
-pub returns-then-sw : goal.returns-then-sw
-returns-then-sw c = λ card es et.
+pub returns-in-Err : goal.returns-in-Err
+returns-in-Err c = λ card es et.
     let a = c.args in
     let k = command_of a.h a.given.now in
-    let w = c.change_sw-sw in
+    let w = c.check_change in
     let held : marked (get_or a.session.rights a.n 0) ≡ marked (right_kept card a.n) = ap (λ (z : Session). marked (get_or z.rights a.n 0)) (sym es) in
-    let is : w.result ≡ first (change_checks (logins card) k) =
-    w.ensures ∙ rw (c.marked.ensures, held) (change-checked card k a.n c.requires.is) in
-    changed card a.session k c.with_credential.result es a.n a.tries c.requires.is (omega (arith, c.requires.low)) et (sym is ∙ c.if-sw.true) (c.with_credential.ensures ∙ rw (c.credential_of.ensures, c.same_session-done.ensures))
+    let is : w.result ≡ checked (first (change_checks (logins card) k)) =
+    w.ensures ∙ rw (c.marked.ensures, held) (ap checked (change-checked card k a.n c.requires.is)) in
+    let e = sym is ∙ c.in-Err.is in
+    refused-quietly (first (change_checks (logins card) k)) card (touched card (change_touch k) []) _ (refused _ e) (refuses _ e) c.same_session.result (leaves-same card a.session es c.same_session.result c.in-Err.refused.sw c.same_session.ensures)
 
 pub returns : goal.returns
 returns c = λ card es et.
     let a = c.args in
     let k = command_of a.h a.given.now in
-    let w = c.change_sw-sw in
+    let w = c.check_change in
     let held : marked (get_or a.session.rights a.n 0) ≡ marked (right_kept card a.n) = ap (λ (z : Session). marked (get_or z.rights a.n 0)) (sym es) in
-    let is : w.result ≡ first (change_checks (logins card) k) =
-    w.ensures ∙ rw (c.marked.ensures, held) (change-checked card k a.n c.requires.is) in
-    refused-quietly (first (change_checks (logins card) k)) card (touched card (change_touch k) []) w.result is c.if-sw.false c.same_session.result (leaves-same card a.session es c.same_session.result w.result c.same_session.ensures)
+    let is : w.result ≡ checked (first (change_checks (logins card) k)) =
+    w.ensures ∙ rw (c.marked.ensures, held) (ap checked (change-checked card k a.n c.requires.is)) in
+    changed card a.session k c.with_credential.result es a.n a.tries c.requires.is (omega (arith, c.requires.low)) et (passed _ (sym is ∙ c.in_default.is)) (c.with_credential.ensures ∙ rw (c.credential_of.ensures, c.same_session-done.ensures))

@@ -1,27 +1,25 @@
-use Prim.Native.Nat.{min}
 use mathlib.Core.Path.{◌≡◌}
 use native.Mathlib.Omega.{arith}
-use lib.ListN.{length}
+use lib.ListN.{length, length-append}
 use borrow.Author.Rules.{rules}
-use Rattle.card.proofs.Bytewise.{gathered_none, gathered-more, gathered-all}
+use Rattle.std.proofs.lemmas.Slice.Zip.{zip_end, zip_turn}
+use Rattle.card.proofs.Bytewise.{gathered, gathered_none, gathered-more, gathered-all}
 use Rattle.card.proofs.pins.same.Goals as goal
 
-pub loop-i-init : goal.loop-i-init
-loop-i-init c = let a = c.args in
-    (search rules, gathered_none c.fewer-held.result a.value a.given.now c.lengths_differ-differ.result c.lengths_differ-differ.ensures)
+pub loop-a-init : goal.loop-a-init
+loop-a-init c = gathered_none c.min-held.result c.args.value c.args.given.now c.from-differ.result (search rules)
 
-pub loop-i-preserved : goal.loop-i-preserved
-loop-i-preserved c = let s = c in
-    let a = s.args in
-    let at-loop = c.loop-i in
-    (search rules, gathered-more c.fewer-held.result a.value a.given.now at-loop.differ c.bytes_differ-differ.result at-loop.i (search rules) (search rules) at-loop.invariant.1 c.bytes_differ-differ.ensures)
+pub loop-a-preserved : goal.loop-a-preserved
+loop-a-preserved c =
+    let a = c.args in
+    let l = c.loop-a in
+    let t = zip_turn a.value a.given.now l.yielded c.into_iter-a-iterator.result l.a-iterator c.next.new.self c.next.result (search rules) (search rules) l.yielded_by (c.in-Some.a, c.in-Some.b) c.in-Some.is c.next.ensures.steps in
+    rw (length-append, t.2 0, t.3 0) (gathered-more c.min-held.result a.value a.given.now l.differ _ (length l.yielded) t.0 t.1 l.invariant (gathered l.differ _ _))
 
 pub returns : goal.returns
-returns c = let s = c in
-    let a = s.args in
-    let at-loop = c.loop-i in
+returns c =
+    let a = c.args in
+    let l = c.loop-a in
     let n : length a.value ≡ 16 = search rules in
-    let w : c.wide.result ≡ a.len = c.wide.ensures.is in
-    let h : c.fewer-held.result ≡ min a.len (length a.value) = omega (arith, c.fewer-held.ensures) in
-    let m : at-loop.i ≡ min (length a.given.now) (length a.value) = omega (arith, c.fewer-n.ensures, at-loop.invariant.0, c.loop-i-test.false) in
-    gathered-all a.value a.given.now a.len _ at-loop.i at-loop.differ h m at-loop.invariant.1
+    let e = zip_end a.value a.given.now l.yielded c.into_iter-a-iterator.result l.a-iterator c.next.new.self c.next.result (search rules) (search rules) l.yielded_by c.in-None.is c.next.ensures.steps in
+    gathered-all a.value a.given.now a.len c.min-held.result (length l.yielded) l.differ (omega (arith, n, c.from.ensures, c.min-held.ensures)) (omega (arith, e)) l.invariant

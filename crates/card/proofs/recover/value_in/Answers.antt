@@ -7,4 +7,4 @@ use Rattle.card.proofs.recover.value_in.Goals as goal
 pub returns : goal.returns
 returns c = let j = c.args.j in
     let l : length c.args.j.bytes ≡ 17 = search rules in
-    rw (c.filled-value.ensures, value-held j.bytes l)
+    rw (c.filled.ensures, value-held j.bytes l)

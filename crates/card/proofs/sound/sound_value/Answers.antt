@@ -13,14 +13,13 @@ returns-then-is_key c = let s = c in
     let x = s.args.x in
     let n : length x.value ≡ 16 = search rules in
     let k : is_key s.args.n ≡ true = sym c.is_key.ensures ∙ c.if-is_key.true in
-    rw (eq-eqb _ _ n, k, c.wide-len.ensures.is) (key-kept x.value x.len n)
+    rw (eq-eqb _ _ n, k, c.from-len.ensures) (key-kept x.value x.len n)
 
-pub returns : goal.returns
+pub returns-else-is_key : goal.returns-else-is_key
 unfolding good_value sound_value
-returns c = let s = c in
+returns-else-is_key c = let s = c in
     let x = s.args.x in
     let n : length x.value ≡ 16 = search rules in
     let k : is_key s.args.n ≡ false = sym c.is_key.ensures ∙ c.if-is_key.false in
-    c.both.ensures
-    ∙ rw (eq-eqb _ _ n, k, c.good_pin_length.ensures, c.wide-len.ensures.is, s.requires k)
+    rw (eq-eqb _ _ n, k, c.good_pin_length.ensures, c.from-len.ensures, s.requires k)
     (sym (pin-kept x.value x.len n))

@@ -1,6 +1,5 @@
 use Rattle.card.proofs.Stepping.{refused-reply, refused-area, refused-random, refused-state, served-command}
-use borrow.Author.Tests.{not-true, not-false}
-use mathlib.Core.Path.{refl, sym, ◌∙◌}
+use mathlib.Core.Path.{sym, ◌∙◌}
 use Rattle.card.proofs.step.command.Goals as goal
 
 pub returns-then-reply-lt-REPLY_SIZE : goal.returns-then-reply-lt-REPLY_SIZE
@@ -15,22 +14,13 @@ pub returns-then-random-ne-RANDOM_SIZE : goal.returns-then-random-ne-RANDOM_SIZE
 returns-then-random-ne-RANDOM_SIZE c = let a = c.args in
     refused-random a.card a.area.now a.cmd.now a.random.now a.reply.now c.if-reply-lt-REPLY_SIZE.false c.if-area-ne-AREA_SIZE.false c.if-random-ne-RANDOM_SIZE.true c.answer-then-random-ne-RANDOM_SIZE.result c.answer-then-random-ne-RANDOM_SIZE.ensures
 
-pub shape_of-area-then-not-is_sound : goal.shape_of-area-then-not-is_sound
-shape_of-area-then-not-is_sound c = refl
-
 pub returns-then-not-is_sound : goal.returns-then-not-is_sound
 returns-then-not-is_sound c = let a = c.args in
-    refused-state a.card a.area.now a.cmd.now a.random.now a.reply.now c.if-reply-lt-REPLY_SIZE.false c.if-area-ne-AREA_SIZE.false c.if-random-ne-RANDOM_SIZE.false (sym c.is_sound.ensures ∙ not-true _ c.if-not-is_sound.true-raw) c.answer-then-not-is_sound.result c.answer-then-not-is_sound.ensures
+    refused-state a.card a.area.now a.cmd.now a.random.now a.reply.now c.if-reply-lt-REPLY_SIZE.false c.if-area-ne-AREA_SIZE.false c.if-random-ne-RANDOM_SIZE.false (sym c.is_sound.ensures ∙ c.if-not-is_sound.true) c.answer-then-not-is_sound.result c.answer-then-not-is_sound.ensures
 
 pub step-requires : goal.step-requires
-step-requires c = record { ready = record { is-sound = sym c.is_sound.ensures ∙ not-false _ c.if-not-is_sound.false-raw; area-size = c.if-area-ne-AREA_SIZE.false }; random_len = (c.if-random-ne-RANDOM_SIZE.false, c.if-reply-lt-REPLY_SIZE.false) }
-
-pub shape_of-area : goal.shape_of-area
-shape_of-area c = c.area-1.given
-
-pub shape_of-reply : goal.shape_of-reply
-shape_of-reply c = c.reply-1.given
+step-requires c = record { ready = record { is-sound = sym c.is_sound.ensures ∙ c.if-not-is_sound.false; area-size = c.if-area-ne-AREA_SIZE.false }; random_len = (c.if-random-ne-RANDOM_SIZE.false, c.if-reply-lt-REPLY_SIZE.false) }
 
 pub returns : goal.returns
 returns c = let a = c.args in
-    served-command a.card a.area.now a.cmd.now a.random.now a.reply.now c.if-reply-lt-REPLY_SIZE.false c.if-area-ne-AREA_SIZE.false c.if-random-ne-RANDOM_SIZE.false (sym c.is_sound.ensures ∙ not-false _ c.if-not-is_sound.false-raw) c.step.result _ _ c.step.ensures
+    served-command a.card a.area.now a.cmd.now a.random.now a.reply.now c.if-reply-lt-REPLY_SIZE.false c.if-area-ne-AREA_SIZE.false c.if-random-ne-RANDOM_SIZE.false (sym c.is_sound.ensures ∙ c.if-not-is_sound.false) c.step.result _ _ c.step.ensures

@@ -13,6 +13,7 @@ use Rattle.card.specs.Head.{command_of}
 use Rattle.card.specs.Coded.{done, rest, sfi_asked, takes_code}
 use Rattle.card.proofs.Carrying.{shows-ruled, stores-ruled}
 use Rattle.rules.specs.declared.Ins.{Ins}
+use Rattle.rules.specs.declared.Ins.TheVariants.{Select, ReadBinary, UpdateBinary, ReadRecord, UpdateRecord, AppendRecord, Verify, Authenticate, ChangePin, ReloadPin, CreateFile, GetChallenge, GetResponse, Unlisted}
 use Rattle.card.proofs.step.on_contents.Goals as goal
 
 pub read_binary-requires : goal.read_binary-requires
@@ -20,10 +21,6 @@ read_binary-requires c = c.requires
 
 pub read_record-requires : goal.read_record-requires
 read_record-requires c = c.requires.1
-
-pub returns-in-Select : goal.returns-in-Select
-unfolding rule
-returns-in-Select c = λ card random es aim ready tc. clash false (subst (λ (z : Ins). takes_code (rule z) ≡ true) c.in-Select.is tc) refl
 
 pub returns-in-ReadBinary : goal.returns-in-ReadBinary
 unfolding rest done rule read_binary_checks read_count
@@ -70,34 +67,25 @@ returns-in-AppendRecord c = λ card random es aim ready tc.
     rw c.in-AppendRecord.is
     (stores-ruled card random a.area.now a.reply.now (first (append_checks card k)) (did card (append_deed card k)) c.append_record.result refl refl refl _ (c.append_record.ensures card es (subst (λ (z : Ins). a.x ≡ addressed card.directory (target card (sfi_asked z (command_of a.h [])))) c.in-AppendRecord.is aim) ready))
 
-pub returns-in-Verify : goal.returns-in-Verify
+-- only the five above take a code
+others : (i : Ins) → takes_code (rule i) ≡ true → (i ≡ ReadBinary → ⊥) → (i ≡ UpdateBinary → ⊥) → (i ≡ ReadRecord → ⊥) → (i ≡ UpdateRecord → ⊥) → (i ≡ AppendRecord → ⊥) → ⊥
 unfolding rule
-returns-in-Verify c = λ card random es aim ready tc. clash false (subst (λ (z : Ins). takes_code (rule z) ≡ true) c.in-Verify.is tc) refl
+others ReadBinary tc a b d e f = a refl
+others UpdateBinary tc a b d e f = b refl
+others ReadRecord tc a b d e f = d refl
+others UpdateRecord tc a b d e f = e refl
+others AppendRecord tc a b d e f = f refl
+others Select tc a b d e f = clash false tc refl
+others Verify tc a b d e f = clash false tc refl
+others Authenticate tc a b d e f = clash false tc refl
+others ChangePin tc a b d e f = clash false tc refl
+others ReloadPin tc a b d e f = clash false tc refl
+others CreateFile tc a b d e f = clash false tc refl
+others GetChallenge tc a b d e f = clash false tc refl
+others GetResponse tc a b d e f = clash false tc refl
+others Unlisted tc a b d e f = clash false tc refl
 
-pub returns-in-Authenticate : goal.returns-in-Authenticate
-unfolding rule
-returns-in-Authenticate c = λ card random es aim ready tc. clash false (subst (λ (z : Ins). takes_code (rule z) ≡ true) c.in-Authenticate.is tc) refl
-
-pub returns-in-ChangePin : goal.returns-in-ChangePin
-unfolding rule
-returns-in-ChangePin c = λ card random es aim ready tc. clash false (subst (λ (z : Ins). takes_code (rule z) ≡ true) c.in-ChangePin.is tc) refl
-
-pub returns-in-ReloadPin : goal.returns-in-ReloadPin
-unfolding rule
-returns-in-ReloadPin c = λ card random es aim ready tc. clash false (subst (λ (z : Ins). takes_code (rule z) ≡ true) c.in-ReloadPin.is tc) refl
-
-pub returns-in-CreateFile : goal.returns-in-CreateFile
-unfolding rule
-returns-in-CreateFile c = λ card random es aim ready tc. clash false (subst (λ (z : Ins). takes_code (rule z) ≡ true) c.in-CreateFile.is tc) refl
-
-pub returns-in-GetChallenge : goal.returns-in-GetChallenge
-unfolding rule
-returns-in-GetChallenge c = λ card random es aim ready tc. clash false (subst (λ (z : Ins). takes_code (rule z) ≡ true) c.in-GetChallenge.is tc) refl
-
-pub returns-in-GetResponse : goal.returns-in-GetResponse
-unfolding rule
-returns-in-GetResponse c = λ card random es aim ready tc. clash false (subst (λ (z : Ins). takes_code (rule z) ≡ true) c.in-GetResponse.is tc) refl
-
-pub returns-in-Unlisted : goal.returns-in-Unlisted
-unfolding rule
-returns-in-Unlisted c = λ card random es aim ready tc. clash false (subst (λ (z : Ins). takes_code (rule z) ≡ true) c.in-Unlisted.is tc) refl
+pub returns-in_default : goal.returns-in_default
+returns-in_default c = λ card random es aim ready tc.
+    let o = c.in_default in
+    absurd (others c.args.ins tc o.not-ReadBinary o.not-UpdateBinary o.not-ReadRecord o.not-UpdateRecord o.not-AppendRecord)

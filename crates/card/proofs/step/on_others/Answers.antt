@@ -1,4 +1,4 @@
-use mathlib.Core.Path.{◌∙◌, ◌≡◌, ap, ap₂, refl, subst, sym}
+use mathlib.Core.Path.{◌≡◌, ap, refl}
 use mathlib.Core.Bool.{false, true}
 use mathlib.Core.List.{List, []}
 use Prim.Native.Nat.{ℕ}
@@ -14,7 +14,7 @@ use Rattle.rules.specs.Pins.{change_checks, change_touch, reload_checks, reload_
 use Rattle.rules.specs.Device.{authenticate_checks, authenticate_touch, cryptogram, get_challenge_checks, get_challenge_touch}
 use Rattle.rules.specs.Effect.{answers}
 use Rattle.rules.specs.List.{rule}
-use Rattle.rules.specs.Step.{did, touched}
+use Rattle.rules.specs.Step.{did, ruled, touched}
 use Rattle.rules.proofs.Good.{sound-good}
 use Rattle.card.specs.Head.{command_of}
 use Rattle.card.specs.Coded.{done, rest, takes_code}
@@ -22,6 +22,11 @@ use Rattle.card.proofs.Carrying.{leaves-same, quiet, quiet-ruled, says-ruled, st
 use Rattle.card.proofs.Outcomes.{presents-quiet, verify-quiet, verify-random}
 use Rattle.card.proofs.Serving.{create-from, create-says, create-shows, key-whole, select-quiet}
 use Rattle.rules.specs.declared.Ins.{Ins}
+use Rattle.rules.specs.declared.Ins.TheVariants.{Select, ReadBinary, UpdateBinary, ReadRecord, UpdateRecord, AppendRecord, Verify, Authenticate, ChangePin, ReloadPin, CreateFile, GetChallenge, GetResponse, Unlisted}
+use Rattle.rules.specs.declared.Card.{Card}
+use Rattle.files.specs.declared.Located.{Located}
+use Rattle.rules.specs.Frame.{Command}
+use Rattle.rules.specs.Record.{record_found}
 use Rattle.card.proofs.step.on_others.Goals as goal
 
 pub verify-requires : goal.verify-requires
@@ -41,34 +46,13 @@ returns-in-Select c = λ card es ed ex ready tc.
     rw c.in-Select.is
     (quiet-ruled card a.random.now a.area.now a.reply.now (first (select_checks card k)) (did card (select_deed card k)) c.select.result (select-quiet card k) (c.select.ensures card es ed))
 
-pub returns-in-ReadBinary : goal.returns-in-ReadBinary
-unfolding rule
-returns-in-ReadBinary c = λ card es ed ex ready tc. clash true refl (subst (λ (z : Ins). takes_code (rule z) ≡ false) c.in-ReadBinary.is tc)
-
-pub returns-in-UpdateBinary : goal.returns-in-UpdateBinary
-unfolding rule
-returns-in-UpdateBinary c = λ card es ed ex ready tc. clash true refl (subst (λ (z : Ins). takes_code (rule z) ≡ false) c.in-UpdateBinary.is tc)
-
-pub returns-in-ReadRecord : goal.returns-in-ReadRecord
-unfolding rule
-returns-in-ReadRecord c = λ card es ed ex ready tc. clash true refl (subst (λ (z : Ins). takes_code (rule z) ≡ false) c.in-ReadRecord.is tc)
-
-pub returns-in-UpdateRecord : goal.returns-in-UpdateRecord
-unfolding rule
-returns-in-UpdateRecord c = λ card es ed ex ready tc. clash true refl (subst (λ (z : Ins). takes_code (rule z) ≡ false) c.in-UpdateRecord.is tc)
-
-pub returns-in-AppendRecord : goal.returns-in-AppendRecord
-unfolding rule
-returns-in-AppendRecord c = λ card es ed ex ready tc. clash true refl (subst (λ (z : Ins). takes_code (rule z) ≡ false) c.in-AppendRecord.is tc)
-
 pub returns-in-Verify : goal.returns-in-Verify
 unfolding rest done rule
 returns-in-Verify c = λ card es ed ex ready tc.
     let a = c.args in
     let k = command_of a.h a.given.now in
-    let p = c.pin_of-pin in
     let n = c.pin_named-n in
-    let pin : credential card n.result ≡ p.result = ap₂ (λ (y : List Credential) (z : ℕ). get_or y z no_credential) ex n.ensures.is ∙ sym p.ensures in
+    let pin : credential card n.result ≡ get_or a.credentials n.result no_credential = ap (λ (y : List Credential). get_or y n.result no_credential) ex in
     rw c.in-Verify.is
     (rw (← verify-random card (logins card) k a.random.now)
     (quiet-ruled card a.random.now a.area.now a.reply.now (first (verify_checks (logins card) k)) (touched card (verify_touch (logins card) k) []) c.verify.result (verify-quiet card (logins card) k []) (c.verify.ensures card es pin)))
@@ -87,9 +71,8 @@ unfolding rest done rule
 returns-in-ChangePin c = λ card es ed ex ready tc.
     let a = c.args in
     let k = command_of a.h a.given.now in
-    let p = c.pin_of-pin in
     let n = c.pin_named-n in
-    let pin : credential card n.result ≡ p.result = ap₂ (λ (y : List Credential) (z : ℕ). get_or y z no_credential) ex n.ensures.is ∙ sym p.ensures in
+    let pin : credential card n.result ≡ get_or a.credentials n.result no_credential = ap (λ (y : List Credential). get_or y n.result no_credential) ex in
     rw c.in-ChangePin.is
     (quiet-ruled card a.random.now a.area.now a.reply.now (first (change_checks (logins card) k)) (touched card (change_touch k) []) c.change.result refl (c.change.ensures card es (ap (λ (z : Credential). z.tries) pin)))
 
@@ -118,18 +101,30 @@ returns-in-GetChallenge c = λ card es ed ex ready tc.
     rw c.in-GetChallenge.is
     (says-ruled card a.random.now a.area.now a.reply.now (first (get_challenge_checks k)) (touched card (get_challenge_touch k) a.random.now) c.get_challenge.result refl refl refl refl _ c.requires.0 (c.get_challenge.ensures card es))
 
-pub returns-in-GetResponse : goal.returns-in-GetResponse
+-- the other commands that take no code are in no list here
+unanswered : (i : Ins) (x : Card) (l : Located) (k : Command) (random : List ℕ) → takes_code (rule i) ≡ false
+    → (i ≡ Select → ⊥) → (i ≡ Verify → ⊥) → (i ≡ Authenticate → ⊥) → (i ≡ ChangePin → ⊥) → (i ≡ ReloadPin → ⊥) → (i ≡ CreateFile → ⊥) → (i ≡ GetChallenge → ⊥)
+    → ruled (first (rest i x l k)) x (done i x l k random) ≡ answers 0x6D00 x
 unfolding rest done rule
-returns-in-GetResponse c = λ card es ed ex ready tc.
-    let a = c.args in
-    let k = command_of a.h a.given.now in
-    rw c.in-GetResponse.is
-    (quiet card a.random.now a.area.now a.reply.now (answers 0x6D00 card) c.same_session-in-GetResponse.result refl (leaves-same card a.session es c.same_session-in-GetResponse.result 0x6D00 c.same_session-in-GetResponse.ensures))
+unanswered Select x l k random tc a b d e f g h = absurd (a refl)
+unanswered Verify x l k random tc a b d e f g h = absurd (b refl)
+unanswered Authenticate x l k random tc a b d e f g h = absurd (d refl)
+unanswered ChangePin x l k random tc a b d e f g h = absurd (e refl)
+unanswered ReloadPin x l k random tc a b d e f g h = absurd (f refl)
+unanswered CreateFile x l k random tc a b d e f g h = absurd (g refl)
+unanswered GetChallenge x l k random tc a b d e f g h = absurd (h refl)
+unanswered ReadBinary x l k random tc a b d e f g h = clash true refl tc
+unanswered UpdateBinary x l k random tc a b d e f g h = clash true refl tc
+unanswered ReadRecord x l k random tc a b d e f g h = clash true refl tc
+unanswered UpdateRecord x l k random tc a b d e f g h = clash true refl tc
+unanswered AppendRecord x l k random tc a b d e f g h = clash true refl tc
+unanswered GetResponse x l k random tc a b d e f g h = refl
+unanswered Unlisted x l k random tc a b d e f g h = refl
 
-pub returns-in-Unlisted : goal.returns-in-Unlisted
-unfolding rest done rule
-returns-in-Unlisted c = λ card es ed ex ready tc.
+pub returns-in_default : goal.returns-in_default
+returns-in_default c = λ card es ed ex ready tc.
     let a = c.args in
-    let k = command_of a.h a.given.now in
-    rw c.in-Unlisted.is
-    (quiet card a.random.now a.area.now a.reply.now (answers 0x6D00 card) c.same_session-in-Unlisted.result refl (leaves-same card a.session es c.same_session-in-Unlisted.result 0x6D00 c.same_session-in-Unlisted.ensures))
+    let o = c.in_default in
+    let s = c.same_session in
+    rw (unanswered a.ins card (record_found card a.area.now (command_of a.h [])) (command_of a.h a.given.now) a.random.now tc o.not-Select o.not-Verify o.not-Authenticate o.not-ChangePin o.not-ReloadPin o.not-CreateFile o.not-GetChallenge)
+    (quiet card a.random.now a.area.now a.reply.now (answers 0x6D00 card) s.result refl (leaves-same card a.session es s.result 0x6D00 s.ensures))

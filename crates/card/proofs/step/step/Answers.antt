@@ -5,6 +5,7 @@ use native.Mathlib.Omega.{arith}
 use lib.ListN.{length, take}
 use lib.Seq.{length-take-le}
 use Rattle.rules.specs.declared.Card.{Card}
+use Rattle.rules.specs.declared.Response.{Response}
 use Rattle.rules.specs.Words.{byte, filled_to}
 use Rattle.rules.specs.State.{mode, response_of, response_size, with_challenge}
 use Rattle.rules.specs.Calls.{answer}
@@ -24,12 +25,12 @@ returns-then-fetches c = let a = c.args in
     c.fetched.result c.if-fetches.true c.fetched.ensures
 
 pub slice_bounds-filled_response-end-2 : goal.slice_bounds-filled_response-end-2
-slice_bounds-filled_response-end-2 c = sym (length-take-le c.hidden-size.result c.args.reply.now (omega (arith, c.hidden-size.ensures.low, c.requires.random_len.1)))
+slice_bounds-filled_response-end-2 c = sym (length-take-le c.hidden.result c.args.reply.now (omega (arith, c.hidden.ensures.low, c.requires.random_len.1)))
 
 pub ruled-done-requires : goal.ruled-done-requires
 ruled-done-requires c = let a = c.args in
     let h = c.head_of-h in
-    record { h_value = h.ensures; le_bound = (le-few a.cmd.now h.result h.ensures (omega (arith, c.shared_slice_known-1.given (le_place (case_of a.cmd.now) (byte a.cmd.now 4)))), c.requires.random_len.0, omega (arith, c.requires.random_len.1)) }
+    record { h_value = h.ensures; le_bound = (le-few a.cmd.now h.result h.ensures (omega (arith, c.type_inv.cmd (le_place (case_of a.cmd.now) (byte a.cmd.now 4)))), c.requires.random_len.0, omega (arith, c.requires.random_len.1)) }
 
 pub slice_bounds-session_left-end : goal.slice_bounds-session_left-end
 slice_bounds-session_left-end c = sym (length-take-le _ c.args.random.now (omega (arith, (c.ruled-done.ensures c.args.card refl refl refl c.requires.ready).said-few, c.requires.random_len.0)))
@@ -41,22 +42,19 @@ pub overflow_add-size : goal.overflow_add-size
 overflow_add-size c = omega (arith, (c.ruled-done.ensures c.args.card refl refl refl c.requires.ready).n-few)
 
 pub slice_bounds-response_of-end : goal.slice_bounds-response_of-end
-slice_bounds-response_of-end c = omega (arith, (c.ruled-done.ensures c.args.card refl refl refl c.requires.ready).n-few, c.reply-2-1.given, c.requires.random_len.1)
+slice_bounds-response_of-end c = omega (arith, (c.ruled-done.ensures c.args.card refl refl refl c.requires.ready).n-few, c.ruled-done.auto.reply, c.requires.random_len.1)
 
 pub slice_bounds-response_of-end-then-later : goal.slice_bounds-response_of-end-then-later
-slice_bounds-response_of-end-then-later c = sym (length-take-le c.ruled-done.result.n _ (omega (arith, (c.ruled-done.ensures c.args.card refl refl refl c.requires.ready).n-few, c.reply-2-1.given, c.requires.random_len.1)))
+slice_bounds-response_of-end-then-later c = sym (length-take-le c.ruled-done.result.n _ (omega (arith, (c.ruled-done.ensures c.args.card refl refl refl c.requires.ready).n-few, c.ruled-done.auto.reply, c.requires.random_len.1)))
 
 pub slice_bounds-store-end : goal.slice_bounds-store-end
 slice_bounds-store-end c = let n : length c.filled_response-before.result ≡ 256 = c.filled_response-before.type_inv.1.0.1 in sym n
 
 pub put_sw-requires : goal.put_sw-requires
-put_sw-requires c = omega (arith, c.reply-then-later-1.given, c.reply-2-1.given, c.requires.random_len.1)
+put_sw-requires c = omega (arith, c.store.auto.xs, c.ruled-done.auto.reply, c.requires.random_len.1)
 
 pub put_sw-requires-else-later : goal.put_sw-requires-else-later
-put_sw-requires-else-later c = omega (arith, (c.ruled-done.ensures c.args.card refl refl refl c.requires.ready).n-few, c.reply-2-1.given, c.requires.random_len.1)
-
-pub shape_of-area : goal.shape_of-area
-shape_of-area c = c.area-1.given
+put_sw-requires-else-later c = omega (arith, (c.ruled-done.ensures c.args.card refl refl refl c.requires.ready).n-few, c.ruled-done.auto.reply, c.requires.random_len.1)
 
 pub returns : goal.returns
 returns c = let a = c.args in
@@ -70,16 +68,16 @@ returns c = let a = c.args in
     elim c.if-later.branch [
       | then-later z ↦
           let taken : eqb (mode a.card) 1 ≡ true = eq-eqb _ _ z.if-later.true in
-          let size : c.hidden-size.result ≡ 256 = c.hidden-size.ensures.is ∙ rw taken in
+          let size : c.hidden.result ≡ 256 = c.hidden.ensures.is ∙ rw taken in
           rw (step_waits a.card a.area.now a.cmd.now a.random.now h.result h.ensures f.result f.ensures c.if-fetches.false taken)
           (served-later (at_once a.card a.area.now a.cmd.now a.random.now) a.reply.now next r.result.sw r.result.n _ _ out c.requires.random_len.1 c.filled_response-before.result c.answer.result _ _
           (c.filled_response-before.ensures ∙ ap (λ (n : ℕ). filled_to response_size (take response_size (take n a.reply.now))) size) z.store.ensures.left_is (z.reply-is ∙ z.put_sw.ensures ∙ rw z.wait_sw.ensures)
           (λ (d : List ℕ). settled_card a.card (leaves a.card r.result) r.result.left (response_of (mode a.card) (take response_size d)) said)
           (settled-later a.card a.area.now a.cmd.now a.random.now a.reply.now h.result c.listed-ins.result r.result _ _ w)
-          (settled-parts a.card r.result _ _ _ _ _ _ 2 said c.answer.result c.credentials_left-credentials.ensures c.directory_left-directory.ensures c.session_left-session.ensures (z.response-is ∙ z.response_of-kept.ensures) z.size-is c.answer.ensures))
+          (settled-parts a.card r.result _ _ _ _ _ _ 2 said c.answer.result c.credentials_left-credentials.ensures c.directory_left-directory.ensures c.session_left-session.ensures (ap (λ (p : Response × ℕ). p.0) z.size-is ∙ z.response_of-kept.ensures) (ap (λ (p : Response × ℕ). p.1) z.size-is) c.answer.ensures))
       | else-later z ↦
           rw (step-at-once a.card a.area.now a.cmd.now a.random.now h.result h.ensures f.result f.ensures c.if-fetches.false (ne_eqb _ _ z.if-later.false))
           (served-at-once (at_once a.card a.area.now a.cmd.now a.random.now) a.reply.now next r.result.sw r.result.n _ _ out c.answer.result _ (z.reply-is ∙ z.put_sw-else-later.ensures)
-          (settled-parts a.card r.result _ _ _ _ _ _ (r.result.n + 2) said c.answer.result c.credentials_left-credentials.ensures c.directory_left-directory.ensures c.session_left-session.ensures z.response-is z.size-is c.answer.ensures
+          (settled-parts a.card r.result _ _ _ _ _ _ (r.result.n + 2) said c.answer.result c.credentials_left-credentials.ensures c.directory_left-directory.ensures c.session_left-session.ensures (ap (λ (p : Response × ℕ). p.0) z.size-is) (ap (λ (p : Response × ℕ). p.1) z.size-is) c.answer.ensures
           ∙ ap (λ (x : Card). answer 0 x (r.result.n + 2)) (settled-at-once a.card a.area.now a.cmd.now a.random.now a.reply.now h.result c.listed-ins.result r.result _ _ w)))
     ]

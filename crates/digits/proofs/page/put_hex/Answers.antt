@@ -1,16 +1,10 @@
-use mathlib.Core.Path.{refl, sym, ◌∙◌}
+use mathlib.Core.Path.{sym, ◌∙◌}
 use Rattle.digits.proofs.Drawn.{hex-more, hex-end}
-use borrow.Author.Rules.{rules}
 use Rattle.digits.proofs.page.put_hex.Goals as goal
 
-pub loop-i-init : goal.loop-i-init
-loop-i-init c = (refl, refl)
-
-pub loop-i-preserved : goal.loop-i-preserved
-loop-i-preserved c = (search rules, hex-more c.args.bytes.now c.loop-i.i _ _ _ _ _ c.loop-i-test.true c.high_digit.ensures c.low_digit.ensures c.put-middle.ensures c.put-q.ensures ∙ c.loop-i.invariant.1)
-
-pub shape_of-out : goal.shape_of-out
-shape_of-out c = c.loop-i.invariant.0
+pub loop-b-preserved : goal.loop-b-preserved
+loop-b-preserved c =
+    hex-more c.args.bytes.now c.loop-b.b-index _ _ _ _ _ c.loop-b-test.true c.hex_digit.ensures c.hex_digit-in-loop-b.ensures c.put-middle.ensures c.put-q.ensures ∙ c.loop-b.invariant
 
 pub returns : goal.returns
-returns c = sym (hex-end c.args.bytes.now c.loop-i.i _ c.loop-i-test.false) ∙ c.loop-i.invariant.1
+returns c = sym (hex-end c.args.bytes.now c.loop-b.b-index _ c.loop-b-test.false) ∙ c.loop-b.invariant

@@ -1,66 +1,13 @@
-use mathlib.Core.Path.{◌≡◌, sym, ap, ◌∙◌}
-use mathlib.Core.Bool.{true, false}
-use Prim.Native.Nat.{◌+◌, ◌≤◌}
-use lib.Dec.{leb}
-use lib.ListN.{length}
-use borrow.Author.Tests.{not-true, not-false}
-use Rattle.files.specs.Types.{size}
-use native.Mathlib.Omega.{arith}
-use borrow.Author.Tests.{leb-true}
-use Rattle.files.specs.State.{file_answer}
-use Rattle.files.specs.Record.{next_start, entry, appended, appends_record}
+use Rattle.files.specs.Record.{next_start, entry}
 use Rattle.files.proofs.Appends.{next_fits}
-use Rattle.files.proofs.Served.{not-on-area, not-stored, in-fits, in_order, area-served, area-stored}
+use Rattle.files.proofs.Served.{lent-written, off-written}
 use Rattle.files.proofs.area.append_record.Goals as goal
 
-pub returns-then-not-ends_by : goal.returns-then-not-ends_by
-returns-then-not-ends_by c = let a = c.args in
-    let x = a.x in
-    let z = c.size-length in
-    let h : leb (x.start + size x.file) (length a.area.now) ≡ false = ap (λ n. leb (x.start + n) (length a.area.now)) (sym z.ensures.is) ∙ sym c.ends_by.ensures ∙ not-true _ c.if-not-ends_by.true-raw in
-    let o = not-on-area x (length a.area.now) (appends_record x.file (length a.given.now)) h in
-    record { answer-is = c.file_answer.ensures ∙ rw o; left_is = not-stored _ a.area.now (x.start + next_start x.file) (entry x.file a.given.now) o }
-
-pub overflow_add-to : goal.overflow_add-to
-overflow_add-to c = let a = c.args in
-    let x = a.x in
-    let z = c.size-length in
-    let h : leb (x.start + size x.file) (length a.area.now) ≡ true = ap (λ n. leb (x.start + n) (length a.area.now)) (sym z.ensures.is) ∙ sym c.ends_by.ensures ∙ not-false _ c.if-not-ends_by.false-raw in
-    let f : x.start + size x.file ≤ length a.area.now = leb-true _ _ h in
-    omega (arith, f, z.ensures.is)
-
-pub slice_bounds-append-count : goal.slice_bounds-append-count
-slice_bounds-append-count c = let a = c.args in
-    let x = a.x in
-    let z = c.size-length in
-    let h : leb (x.start + size x.file) (length a.area.now) ≡ true = ap (λ n. leb (x.start + n) (length a.area.now)) (sym z.ensures.is) ∙ sym c.ends_by.ensures ∙ not-false _ c.if-not-ends_by.false-raw in
-    let e = ap (λ n. x.start + n) z.ensures.is in
-    in_order x a.area.now _ e h
-
-pub slice_bounds-append-start : goal.slice_bounds-append-start
-slice_bounds-append-start c = let a = c.args in
-    let x = a.x in
-    let z = c.size-length in
-    let h : leb (x.start + size x.file) (length a.area.now) ≡ true = ap (λ n. leb (x.start + n) (length a.area.now)) (sym z.ensures.is) ∙ sym c.ends_by.ensures ∙ not-false _ c.if-not-ends_by.false-raw in
-    let e = ap (λ n. x.start + n) z.ensures.is in
-    in_order x a.area.now _ e h
-
-pub slice_bounds-append-end : goal.slice_bounds-append-end
-slice_bounds-append-end c = let a = c.args in
-    let x = a.x in
-    let z = c.size-length in
-    let h : leb (x.start + size x.file) (length a.area.now) ≡ true = ap (λ n. leb (x.start + n) (length a.area.now)) (sym z.ensures.is) ∙ sym c.ends_by.ensures ∙ not-false _ c.if-not-ends_by.false-raw in
-    let e = ap (λ n. x.start + n) z.ensures.is in
-    in-fits x a.area.now _ e h
+pub returns-in_default : goal.returns-in_default
+returns-in_default c = let a = c.args in off-written a.x a.area.now c.in_default.ensures _ _ _ _ _ _ c.file_answer.ensures
 
 pub returns : goal.returns
 returns c = let a = c.args in
-    let x = a.x in
-    let z = c.size-length in
-    let h : leb (x.start + size x.file) (length a.area.now) ≡ true = ap (λ n. leb (x.start + n) (length a.area.now)) (sym z.ensures.is) ∙ sym c.ends_by.ensures ∙ not-false _ c.if-not-ends_by.false-raw in
-    let e = ap (λ n. x.start + n) z.ensures.is in
-    let g = c.append.ensures in
-    record {
-      answer-is = g.answer-is ∙ ap (λ t. file_answer t (appended x.file (length a.given.now)) x.file) (area-served x a.area.now _ e h (appends_record x.file (length a.given.now)));
-      left_is = area-stored x a.area.now _ e h (appends_record x.file (length a.given.now)) (next_start x.file) (entry x.file a.given.now) _ (λ t. next_fits x.file a.given.now t) g.left_is;
-    }
+    let f = a.x.file in
+    let b = c.in-Some in
+    lent-written a.x a.area.now b.bytes.start b.bytes.end b.ensures _ (next_start f) _ _ (entry f a.given.now) _ _ (λ t. next_fits f a.given.now t) c.append.ensures

@@ -1,58 +1,11 @@
-use mathlib.Core.Path.{◌≡◌, sym, ap, ◌∙◌}
-use mathlib.Core.Bool.{true, false}
-use Prim.Native.Nat.{◌+◌, ◌≤◌}
-use lib.Dec.{leb}
-use lib.ListN.{length}
-use borrow.Author.Tests.{not-true, not-false}
-use Rattle.files.specs.Types.{size}
-use native.Mathlib.Omega.{arith}
-use borrow.Author.Tests.{leb-true}
-use Rattle.files.proofs.Served.{not-located, in-fits, in_order, area-located}
+use mathlib.Core.Path.{sym, ◌∙◌}
+use Rattle.files.proofs.Served.{lent-located, off-located}
 use Rattle.files.proofs.area.locate.Goals as goal
 
-pub returns-then-not-ends_by : goal.returns-then-not-ends_by
-returns-then-not-ends_by c = let a = c.args in
-    let x = a.x in
-    let z = c.size-length in
-    let h : leb (x.start + size x.file) (length a.area.now) ≡ false = ap (λ n. leb (x.start + n) (length a.area.now)) (sym z.ensures.is) ∙ sym c.ends_by.ensures ∙ not-true _ c.if-not-ends_by.true-raw in
-    c.nowhere.ensures ∙ sym (not-located x a.area.now a.n h)
-
-pub overflow_add-to : goal.overflow_add-to
-overflow_add-to c = let a = c.args in
-    let x = a.x in
-    let z = c.size-length in
-    let h : leb (x.start + size x.file) (length a.area.now) ≡ true = ap (λ n. leb (x.start + n) (length a.area.now)) (sym z.ensures.is) ∙ sym c.ends_by.ensures ∙ not-false _ c.if-not-ends_by.false-raw in
-    let f : x.start + size x.file ≤ length a.area.now = leb-true _ _ h in
-    omega (arith, f, z.ensures.is)
-
-pub slice_bounds-locate-count : goal.slice_bounds-locate-count
-slice_bounds-locate-count c = let a = c.args in
-    let x = a.x in
-    let z = c.size-length in
-    let h : leb (x.start + size x.file) (length a.area.now) ≡ true = ap (λ n. leb (x.start + n) (length a.area.now)) (sym z.ensures.is) ∙ sym c.ends_by.ensures ∙ not-false _ c.if-not-ends_by.false-raw in
-    let e = ap (λ n. x.start + n) z.ensures.is in
-    in_order x a.area.now _ e h
-
-pub slice_bounds-locate-start : goal.slice_bounds-locate-start
-slice_bounds-locate-start c = let a = c.args in
-    let x = a.x in
-    let z = c.size-length in
-    let h : leb (x.start + size x.file) (length a.area.now) ≡ true = ap (λ n. leb (x.start + n) (length a.area.now)) (sym z.ensures.is) ∙ sym c.ends_by.ensures ∙ not-false _ c.if-not-ends_by.false-raw in
-    let e = ap (λ n. x.start + n) z.ensures.is in
-    in_order x a.area.now _ e h
-
-pub slice_bounds-locate-end : goal.slice_bounds-locate-end
-slice_bounds-locate-end c = let a = c.args in
-    let x = a.x in
-    let z = c.size-length in
-    let h : leb (x.start + size x.file) (length a.area.now) ≡ true = ap (λ n. leb (x.start + n) (length a.area.now)) (sym z.ensures.is) ∙ sym c.ends_by.ensures ∙ not-false _ c.if-not-ends_by.false-raw in
-    let e = ap (λ n. x.start + n) z.ensures.is in
-    in-fits x a.area.now _ e h
+pub returns-in_default : goal.returns-in_default
+returns-in_default c = let a = c.args in c.nowhere.ensures ∙ sym (off-located a.x a.area.now c.in_default.ensures a.n)
 
 pub returns : goal.returns
 returns c = let a = c.args in
-    let x = a.x in
-    let z = c.size-length in
-    let h : leb (x.start + size x.file) (length a.area.now) ≡ true = ap (λ n. leb (x.start + n) (length a.area.now)) (sym z.ensures.is) ∙ sym c.ends_by.ensures ∙ not-false _ c.if-not-ends_by.false-raw in
-    let e = ap (λ n. x.start + n) z.ensures.is in
-    c.locate.ensures ∙ area-located x a.area.now _ e h a.n
+    let b = c.in-Some in
+    c.locate.ensures ∙ lent-located a.x a.area.now b.bytes.start b.bytes.end b.ensures a.n

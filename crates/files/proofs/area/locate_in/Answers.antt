@@ -1,13 +1,13 @@
 use mathlib.Core.Path.{sym, ap, ◌∙◌}
-use borrow.Author.Tests.{not-true, not-false}
 use Rattle.files.specs.Record.{located_on}
 use Rattle.files.proofs.Served.{located-place, located-none}
 use Rattle.files.proofs.area.locate_in.Goals as goal
 
 pub returns-then-not-is_place : goal.returns-then-not-is_place
 returns-then-not-is_place c = let a = c.args in
-    c.nowhere.ensures ∙ sym (located-none a.d a.place a.area.now a.n (sym c.is_place.ensures ∙ not-true _ c.if-not-is_place.true-raw))
+    c.nowhere.ensures ∙ sym (located-none a.d a.place a.area.now a.n (sym c.if-not-is_place.ensures))
 
 pub returns : goal.returns
 returns c = let a = c.args in
-    c.locate.ensures ∙ ap (λ x. located_on x a.area.now a.n) c.addressed.ensures ∙ located-place a.d a.place a.area.now a.n (sym c.is_place.ensures ∙ not-false _ c.if-not-is_place.false-raw)
+    c.locate.ensures ∙ ap (λ x. located_on x a.area.now a.n) c.addressed.ensures
+    ∙ located-place a.d a.place a.area.now a.n (sym c.if-not-is_place.ensures)

@@ -1,29 +1,10 @@
-use mathlib.Core.Path.{◌≡◌, sym, ◌∙◌}
-use native.Mathlib.Omega.{arith}
-use lib.ListN.{length}
-use borrow.Author.Rules.{rules}
+use Rattle.std.proofs.Common.{sym, ◌∙◌, rules}
 use Rattle.files.specs.Directory.{folder_at}
 use Rattle.files.proofs.Folders.{none-sum, none-sound}
 use Rattle.files.proofs.sound.no_folders.Goals as goal
 
-pub bounds-folders-0 : goal.bounds-folders-0
-bounds-folders-0 c = omega arith
-
-pub bounds-folders-1 : goal.bounds-folders-1
-bounds-folders-1 c = omega arith
-
-pub bounds-folders-2 : goal.bounds-folders-2
-bounds-folders-2 c = omega arith
-
-pub bounds-folders-3 : goal.bounds-folders-3
-bounds-folders-3 c = omega arith
-
 pub returns : goal.returns
-returns c = let s = c in
-    let l = s.args.folders in
-    let n : length l ≡ 4 = search rules in
-    let x = c.four-front in
-    let y = c.four-middle in
-    let z = c.four-back in
-    none-sum (folder_at l 0) (folder_at l 1) (folder_at l 2) (folder_at l 3) x.result y.result z.result x.ensures.is y.ensures.is z.ensures.is
-    ∙ sym (none-sound l n)
+returns c = let l = c.args.folders in
+    none-sum (folder_at l 0) (folder_at l 1) (folder_at l 2) (folder_at l 3) c.from.result c.from-2.result c.from-3.result
+    (c.from.ensures ∙ c.from_le_bytes-front.ensures) (c.from-2.ensures ∙ c.from_le_bytes-middle.ensures) (c.from-3.ensures ∙ c.from_le_bytes-back.ensures)
+    ∙ sym (none-sound l (search rules))

@@ -10,7 +10,4 @@ abbrev pub Good : ℕ → Type 0
 Good step = (step ≡ 0 → ⊥) → good_length (step - 1) ≡ true
 
 abbrev pub invariant-loop-i : goal.invariant-loop-i
-invariant-loop-i l = (l.i ≤ l.n) × (l.at ≡ walk l.used l.bytes l.i) × (l.turns ≤ 32) × Good l.step
-
-abbrev pub decreases-loop-i : goal.decreases-loop-i
-decreases-loop-i l = l.n - l.i
+invariant-loop-i l = (l.at ≡ walk l.used l.bytes l.i) × (l.turns ≤ 32) × Good l.step

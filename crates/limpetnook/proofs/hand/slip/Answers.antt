@@ -4,4 +4,4 @@ use Rattle.limpetnook.proofs.hand.slip.Goals as goal
 
 pub returns : goal.returns
 unfolding slip_of
-returns c = c.slip_from.ensures ∙ ap slip_from c.store.ensures
+returns c = c.from.ensures ∙ ap slip_from c.store.ensures

@@ -1,6 +1,6 @@
 use mathlib.Core.Path.{sym, ◌∙◌}
 use native.Mathlib.Omega.{arith}
-use borrow.Author.Tests.{not-false}
+use borrow.Author.Rules.{rules}
 use Rattle.lines.proofs.Scanning.{past-none, block-passed}
 use Rattle.lines.proofs.fields.blocks_past.Goals as goal
 
@@ -16,7 +16,7 @@ returns-then-not-lacks c = c.loop-i.invariant
 pub loop-i-preserved : goal.loop-i-preserved
 loop-i-preserved c = let l = c.loop-i in
     let a = c.args in
-    block-passed a.b a.s.now l.i 16 l.invariant (omega (arith, c.loop-i-test.true, l.invariant.inside)) (sym c.lacks.ensures ∙ not-false _ c.if-not-lacks.false-raw)
+    block-passed a.b a.s.now l.i 16 l.invariant (omega (arith, c.loop-i-test.true, l.invariant.inside)) (sym c.lacks.ensures ∙ (search rules))
 
 pub returns : goal.returns
 returns c = c.loop-i.invariant

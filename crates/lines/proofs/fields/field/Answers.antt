@@ -1,15 +1,17 @@
-use Prim.Native.Nat.{◌-◌}
-use mathlib.Core.Path.{refl, ap, ◌∙◌}
-use Rattle.lines.specs.Grammar.{field}
-use Rattle.lines.proofs.Scanning.{field-here, field_past}
+use Prim.Native.Nat.{◌+◌, ◌-◌, ◌<◌}
+use mathlib.Core.Path.{◌≡◌, ◌∙◌}
+use native.Mathlib.Omega.{arith}
+use Rattle.lines.proofs.Scanning.{field_past}
 use Rattle.lines.proofs.fields.field.Goals as goal
 
-pub loop-left-init : goal.loop-left-init
-loop-left-init c = refl
+pub loop-init : goal.loop-init
+loop-init c = let z : c.args.n - 0 ≡ c.args.n = omega arith in rw z
 
-pub loop-left-preserved : goal.loop-left-preserved
-loop-left-preserved c = let l = c.loop-left in
-    ap (field (l.left - 1)) c.after-next.ensures ∙ field_past l.left _ c.loop-left-test.true ∙ l.invariant
+pub loop-preserved : goal.loop-preserved
+loop-preserved c = let l = c.loop in
+    let e : c.args.n - (l.counter + 1) ≡ c.args.n - l.counter - 1 = omega arith in
+    let h : 0 < c.args.n - l.counter = omega arith in
+    rw (e, c.after-rest.ensures) (field_past (c.args.n - l.counter) l.rest.now h ∙ l.invariant)
 
 pub returns : goal.returns
-returns c = let l = c.loop-left in c.before-2.ensures ∙ field-here l.left _ c.loop-left-test.false ∙ l.invariant
+returns c = let l = c.loop in let z : c.args.n - l.counter ≡ 0 = omega arith in c.before-2.ensures ∙ (rw z at l.invariant)

@@ -1,8 +1,12 @@
+use native.Mathlib.Omega.{arith}
+use Prim.Native.Nat.{◌≤◌}
+use mathlib.Core.Path.{◌≡◌, ◌∙◌}
+use lib.ListN.{length}
 use Rattle.lines.proofs.Scanning.{first_found, first-passed, first-none}
 use Rattle.lines.proofs.fields.first_at.Goals as goal
 
 pub loop-i-init : goal.loop-i-init
-loop-i-init c = c.blocks_past-i.ensures
+loop-i-init c = c.blocks_past-past.ensures
 
 pub returns-then-s-i : goal.returns-then-s-i
 returns-then-s-i c = let l = c.loop-i in let a = c.args in
@@ -14,4 +18,6 @@ loop-i-preserved c = let l = c.loop-i in let a = c.args in
 
 pub returns : goal.returns
 returns c = let l = c.loop-i in let a = c.args in
-    record { is = first-none a.b a.s.now l.i l.invariant c.loop-i-test.false; low = l.invariant.inside }
+    let h : length a.s.now ≤ l.i = c.loop-i-test.false in
+    let e : length a.s.now ≡ l.i = omega (arith, l.invariant.inside) in
+    record { is = e ∙ first-none a.b a.s.now l.i l.invariant h; low = omega arith }

@@ -1,4 +1,4 @@
-use mathlib.Core.Path.{sym}
+use mathlib.Core.Path.{refl, sym}
 use lib.Seq.{length-take-le}
 use Rattle.lines.proofs.Telling.{hex-few, answer-inside, few-taken, command-written}
 use borrow.Author.Rules.{rules}
@@ -22,9 +22,9 @@ slice_bounds-reply-end c = answer-inside _ _ _ _ _ _ _ _ c.command-done.ensures
 pub slice_bounds-put_answer-end : goal.slice_bounds-put_answer-end
 slice_bounds-put_answer-end c = sym (length-take-le _ _ (answer-inside _ _ _ _ _ _ _ _ c.command-done.ensures))
 
-pub put_answer-end-requires : goal.put_answer-end-requires
-put_answer-end-requires c = (few-taken c.command-done.result.n _ (search rules), c.requires.2)
+pub put_answer-n-requires : goal.put_answer-n-requires
+put_answer-n-requires c = (few-taken c.command-done.result.n _ (search rules), c.requires.2)
 
 pub returns : goal.returns
 returns c = let a = c.args in
-    command-written a.number a.out.now a.card c.bench.result a.area.now _ a.first.now a.second.now _ _ _ _ c.command-done.result _ _ c.hex_bytes-n.ensures.front-is c.hex_bytes-m.ensures.front-is c.command-done.ensures c.put_answer-end.ensures c.bench.ensures c.answered_as.ensures
+    command-written a.number a.out.now a.card _ a.area.now _ a.first.now a.second.now _ _ _ _ c.command-done.result _ _ c.hex_bytes-n.ensures.front-is c.hex_bytes-m.ensures.front-is c.command-done.ensures c.put_answer-n.ensures refl refl

@@ -1,5 +1,4 @@
 use mathlib.Core.Path.{sym, ◌∙◌}
-use borrow.Author.Tests.{not-true, not-false}
 use Rattle.stores.proofs.Calling.{refused-area, refused-random, refused-state, not-refused}
 use Rattle.stores.proofs.call.refusal.Goals as goal
 
@@ -11,8 +10,8 @@ returns-then-random-ne-RANDOM_SIZE c = let a = c.args in refused-random a.card a
 
 pub returns-then-not-is_sound : goal.returns-then-not-is_sound
 returns-then-not-is_sound c = let a = c.args in
-    refused-state a.card a.area.now a.random.now c.if-area-ne-AREA_SIZE.false c.if-random-ne-RANDOM_SIZE.false (sym c.is_sound.ensures ∙ not-true _ c.if-not-is_sound.true-raw)
+    refused-state a.card a.area.now a.random.now c.if-area-ne-AREA_SIZE.false c.if-random-ne-RANDOM_SIZE.false (sym c.is_sound.ensures ∙ c.if-not-is_sound.true)
 
 pub returns : goal.returns
 returns c = let a = c.args in
-    not-refused a.card a.area.now a.random.now c.if-area-ne-AREA_SIZE.false c.if-random-ne-RANDOM_SIZE.false (sym c.is_sound.ensures ∙ not-false _ c.if-not-is_sound.false-raw)
+    not-refused a.card a.area.now a.random.now c.if-area-ne-AREA_SIZE.false c.if-random-ne-RANDOM_SIZE.false (sym c.is_sound.ensures ∙ c.if-not-is_sound.false)

@@ -6,7 +6,4 @@ use Rattle.stores.specs.Runs.{laid}
 use Rattle.stores.proofs.run.lay.Given as goal
 
 abbrev pub invariant-loop-k : goal.invariant-loop-k
-invariant-loop-k l = (l.k ≤ l.most) × (l.k ≤ length (stores_of l.card l.area l.cmd) - l.first) × (length l.out ≡ length l.initial.out) × (l.out ≡ laid (stores_of l.card l.area l.cmd) l.first l.k l.initial.out)
-
-abbrev pub decreases-loop-k : goal.decreases-loop-k
-decreases-loop-k l = l.most - l.k
+invariant-loop-k l = (l.k ≤ length (stores_of l.card l.area l.cmd) - l.first) × (l.out ≡ laid (stores_of l.card l.area l.cmd) l.first l.k l.initial.out)

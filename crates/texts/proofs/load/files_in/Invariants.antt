@@ -1,9 +1,6 @@
-use Prim.Native.Nat.{◌-◌}
+use Rattle.texts.specs.Forms.{is_new}
 use Rattle.texts.proofs.Scanning.{FilesInv}
 use Rattle.texts.proofs.load.files_in.Given as goal
 
-abbrev pub invariant-loop-i : goal.invariant-loop-i
-invariant-loop-i l = FilesInv l.form l.given l.s l.initial.image l.image l.d l.at l.to l.i
-
-abbrev pub decreases-loop-i : goal.decreases-loop-i
-decreases-loop-i l = 16 - l.i
+abbrev pub invariant-loop : goal.invariant-loop
+invariant-loop l = FilesInv (is_new l.form) l.given l.s l.initial.image l.image l.d l.rest l.to l.counter

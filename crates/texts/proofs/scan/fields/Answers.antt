@@ -1,12 +1,5 @@
-use mathlib.Core.Path.{◌∙◌}
-use native.Mathlib.Omega.{arith}
+use Rattle.texts.proofs.Scanning.{skips-goes}
 use Rattle.texts.proofs.scan.fields.Goals as goal
 
-pub skips-requires : goal.skips-requires
-skips-requires c = omega arith
-
-pub from-requires : goal.from-requires
-from-requires c = c.skips.ensures.inside
-
-pub returns : goal.returns
-returns c = c.from.ensures ∙ c.skips.ensures.rest-is
+pub loop-preserved : goal.loop-preserved
+loop-preserved c = let l = c.loop in skips-goes _ l.rest.now _ c.args.k l.counter c.loop-test.true c.skip-rest.ensures l.invariant

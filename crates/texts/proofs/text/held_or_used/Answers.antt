@@ -13,4 +13,4 @@ returns-then-f-eq-VARIABLE c = c.bytes_used.ensures.is ∙ rw (eq-eqb _ _ c.if-f
 
 pub returns : goal.returns
 unfolding held_or_used
-returns c = rw (ne_eqb _ _ c.if-f-eq-VARIABLE.false)
+returns c = c.from.ensures ∙ rw (ne_eqb _ _ c.if-f-eq-VARIABLE.false)

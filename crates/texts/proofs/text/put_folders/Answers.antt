@@ -1,25 +1,17 @@
-use mathlib.Core.Path.{sym, refl, ◌∙◌}
-use Rattle.texts.proofs.Drawing.{folders-begin, folders-more, folders-end}
-use native.Mathlib.Omega.{arith}
+use Prim.Native.Nat.{ℕ, min}
+use mathlib.Core.Path.{◌≡◌, sym, ap, refl, ◌∙◌}
+use lib.ListN.{take}
+use Rattle.texts.specs.Text.{folder_lines, folder_count}
+use Rattle.digits.specs.Page.{page, draw}
+use Rattle.texts.proofs.Drawing.{folders-more, folders-end}
 use Rattle.texts.proofs.text.put_folders.Goals as goal
 
-pub loop-i-init : goal.loop-i-init
-loop-i-init c = (omega arith, refl, folders-begin c.args.d c.fewer-n.result _ (c.fewer-n.ensures ∙ rw c.wide.ensures.is))
-
-pub folder_at-x-requires : goal.folder_at-x-requires
-folder_at-x-requires c = omega (arith, c.fewer-n.ensures, c.loop-i-test.true)
-
-pub overflow_add-i : goal.overflow_add-i
-overflow_add-i c = omega (arith, c.fewer-n.ensures, c.loop-i-test.true)
-
-pub loop-i-smaller : goal.loop-i-smaller
-loop-i-smaller c = omega (arith, c.loop-i-test.true)
-
-pub loop-i-preserved : goal.loop-i-preserved
-loop-i-preserved c = (omega (arith, c.loop-i-test.true), c.out-1.given ∙ c.loop-i.invariant.1, folders-more c.args.d.folders c.fewer-n.result c.loop-i.i _ _ _ c.loop-i-test.true (omega (arith, c.fewer-n.ensures, c.folder_at-x.ensures.1)) c.folder_at-x.ensures.0 c.put_folder-q.ensures ∙ c.loop-i.invariant.2)
-
-pub shape_of-out : goal.shape_of-out
-shape_of-out c = c.loop-i.invariant.1
+pub loop-x-preserved : goal.loop-x-preserved
+loop-x-preserved c = let l = c.loop-x in (c.put_folder-q.auto.out ∙ l.invariant.0, folders-more _ l.x-index _ _ _ c.loop-x-test.true refl c.put_folder-q.ensures ∙ l.invariant.1)
 
 pub returns : goal.returns
-returns c = sym (folders-end c.args.d.folders c.fewer-n.result c.loop-i.i _ c.loop-i-test.false) ∙ c.loop-i.invariant.2
+unfolding folder_count
+returns c =
+    let l = c.loop-x in
+    let e : c.min-n.result ≡ min c.args.d.number 4 = c.min-n.ensures ∙ rw c.from.ensures in
+    sym (folders-end _ l.x-index _ c.loop-x-test.false) ∙ l.invariant.1 ∙ ap (λ (n : ℕ). draw (folder_lines (take n c.args.d.folders)) (page c.args.out.now c.args.at)) e

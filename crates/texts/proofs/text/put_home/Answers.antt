@@ -1,12 +1,15 @@
-use borrow.Author.Tests.{not-true, not-false}
+use mathlib.Core.Bool.{true, false}
+use mathlib.Core.Path.{◌≡◌}
+use Rattle.texts.specs.Forms.{is_new}
 use Rattle.texts.proofs.Drawing.{no-home, a-home}
 use Rattle.texts.proofs.text.put_home.Goals as goal
 
-pub returns-then-not-form : goal.returns-then-not-form
-returns-then-not-form c = no-home c.args.form c.args.d c.args.place (not-true _ c.if-not-form.true-raw) _
+pub returns-in-New : goal.returns-in-New
+returns-in-New c =
+    let e : is_new c.args.form ≡ true = rw c.in-New.is in
+    a-home (is_new c.args.form) c.args.d c.args.place e _ _ _ c.home_fid-fid.ensures c.hex_field.ensures
 
-pub shape_of-out : goal.shape_of-out
-shape_of-out c = c.out-1.given
-
-pub returns : goal.returns
-returns c = a-home c.args.form c.args.d c.args.place (not-false _ c.if-not-form.false-raw) _ _ _ c.home_fid-fid.ensures c.hex_field.ensures
+pub returns-in-Old : goal.returns-in-Old
+returns-in-Old c =
+    let e : is_new c.args.form ≡ false = rw c.in-Old.is in
+    no-home (is_new c.args.form) c.args.d c.args.place e _

@@ -1,0 +1,20 @@
+use Rattle.std.proofs.Common.{◌∙◌, sym}
+use Rattle.rules.specs.Pins.{verify_checks}
+use Rattle.card.proofs.Checking.{goes, stops, raised}
+use Rattle.card.proofs.pins.check_verify.Goals as goal
+
+pub returns-in_err-check_pin_p : goal.returns-in_err-check_pin_p
+unfolding verify_checks
+returns-in_err-check_pin_p c = let k = c.from_residual.ensures in
+    raised _ k.0 k.1 ∙ sym (stops _ _ (sym c.check_pin_p.ensures ∙ c.in_err-check_pin_p.was))
+
+pub returns-in_err-unless : goal.returns-in_err-unless
+unfolding verify_checks
+returns-in_err-unless c = let k = c.from_residual-in_err-unless.ensures in
+    rw (← c.pin_given.ensures)
+    (raised _ k.0 k.1 ∙ sym (goes _ _ (sym c.check_pin_p.ensures ∙ c.in_ok-check_pin_p.was) ∙ stops _ _ (sym c.unless.ensures ∙ c.in_err-unless.was)))
+
+pub returns : goal.returns
+unfolding verify_checks
+returns c = rw (← c.pin_given.ensures)
+    (c.check_verify_late.ensures ∙ sym (goes _ _ (sym c.check_pin_p.ensures ∙ c.in_ok-check_pin_p.was) ∙ goes _ _ (sym c.unless.ensures ∙ c.in_ok-unless.was)))

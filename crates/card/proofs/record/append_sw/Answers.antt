@@ -1,7 +1,0 @@
-use mathlib.Core.Path.{◌∙◌}
-use Rattle.rules.specs.Record.{append_checks}
-use Rattle.card.proofs.record.append_sw.Goals as goal
-
-pub returns : goal.returns
-unfolding append_checks
-returns c = c.append_file_sw.ensures ∙ rw (c.file_of.ensures, c.record_target-place.ensures)

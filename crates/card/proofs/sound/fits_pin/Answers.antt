@@ -1,7 +1,0 @@
-use Rattle.card.proofs.sound.fits_pin.Goals as goal
-
-pub returns-then-inside : goal.returns-then-inside
-returns-then-inside c = rw c.if-inside.true c.is_digit.ensures
-
-pub returns-else-inside : goal.returns-else-inside
-returns-else-inside c = rw c.if-inside.false

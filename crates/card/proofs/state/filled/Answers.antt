@@ -1,6 +1,0 @@
-use mathlib.Core.Path.{◌∙◌}
-use Rattle.card.proofs.Filling.{filled-front}
-use Rattle.card.proofs.state.filled.Goals as goal
-
-pub returns : goal.returns
-returns c = c.show.ensures.left_is ∙ filled-front 16 _ c.args.bytes.now c.fewer-n.ensures

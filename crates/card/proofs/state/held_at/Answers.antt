@@ -1,5 +1,0 @@
-use mathlib.Core.Path.{◌∙◌}
-use Rattle.card.proofs.state.held_at.Goals as goal
-
-pub returns : goal.returns
-returns c = c.marked.ensures ∙ rw c.right_at.ensures

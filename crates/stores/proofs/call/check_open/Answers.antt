@@ -1,0 +1,14 @@
+use Rattle.std.proofs.Common.{◌∙◌, sym}
+use Rattle.card.proofs.Checking.{goes, stops, raised}
+use Rattle.stores.proofs.call.check_open.Goals as goal
+
+pub returns-in_err-check_frame : goal.returns-in_err-check_frame
+returns-in_err-check_frame c = let k = c.from_residual.ensures in
+    raised _ k.0 k.1 ∙ sym (stops _ _ (sym c.check_frame.ensures ∙ c.in_err-check_frame.was))
+
+pub returns-in_err-check_class : goal.returns-in_err-check_class
+returns-in_err-check_class c = let k = c.from_residual-in_err-check_class.ensures in
+    raised _ k.0 k.1 ∙ sym (goes _ _ (sym c.check_frame.ensures ∙ c.in_ok-check_frame.was) ∙ stops _ _ (sym c.check_class.ensures ∙ c.in_err-check_class.was))
+
+pub returns : goal.returns
+returns c = c.check_front.ensures ∙ sym (goes _ _ (sym c.check_frame.ensures ∙ c.in_ok-check_frame.was) ∙ goes _ _ (sym c.check_class.ensures ∙ c.in_ok-check_class.was))

@@ -1,7 +1,0 @@
-use Rattle.texts.proofs.calls.to_new.Goals as goal
-
-pub shape_of-out : goal.shape_of-out
-shape_of-out c = c.out-1.given
-
-pub returns : goal.returns
-returns c = c.convert.ensures
