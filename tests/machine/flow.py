@@ -396,6 +396,9 @@ class Walk:
         elif name in ("cmp", "test"):
             value = combined(*(self.get(function, place, arg, size, state) for arg in args))
             state.flags = dict.fromkeys(FLAGS, value)
+        elif name == "bt" and args[1].startswith("%"):  # a bit of a register; what is left in s, o and p is not said
+            value = combined(*(self.get(function, place, arg, size, state) for arg in args))
+            state.flags.update(dict.fromkeys("csop", value))
         elif name in COMBINING and len(args) in (2, 3):
             value = self.combine(function, place, name, args, size, state)
             self.put(function, place, args[-1], size, value, state)
