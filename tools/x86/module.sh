@@ -144,20 +144,13 @@ target_words() {
 
 # target_edits TARGET EMPTY: how sed makes the module one for that processor; EMPTY is what the compiler makes there of no code at all. It
 # has the processor's data layout and name; x86-64's go. A caller in C takes it that a small number that is returned fills a register: on Arm
-# and RISC-V the function sees to that, on x86-64 the caller. A pointer that is kept behind a byte stands eight bytes further on, as the rest of the module
-# has it: where pointers have 32 bits the compiler would look for it behind four, so there the two are read one by one. For -Os the compiler
-# marks each function of C that it reads. No call has a floating-point number, so where there is no operating system the library fits programs
-# that pass those in either way.
+# and RISC-V the function sees to that, on x86-64 the caller. For -Os the compiler marks each function of C that it reads. No call has a
+# floating-point number, so where there is no operating system the library fits programs that pass those in either way.
 target_edits() {
     [ "$1" != x86_64-linux ] || return 0 # as rattle has it
     grep '^target ' "$2" | sed 's/^\(target [a-z]*\).*/s|^\1 = .*|&|/'
     echo 's/ "target-cpu"="x86-64"//'
     echo '/^define internal /!s/^\(define [a-z ]*\)\(i8\|i16\) @/\1zeroext \2 @/'
-    case $1 in
-    armv7-* | cortex-*)
-        echo 's/^  \(%[a-z0-9]*\) = load { i8, ptr }, ptr \(%[a-z0-9]*\), align \([0-9]*\)$/  \1.byte = load i8, ptr \2, align \3\n  \1.place = getelementptr i8, ptr \2, i64 8\n  \1.pointer = load ptr, ptr \1.place, align \3\n  \1.half = insertvalue { i8, ptr } poison, i8 \1.byte, 0\n  \1 = insertvalue { i8, ptr } \1.half, ptr \1.pointer, 1/'
-        ;;
-    esac
     case $1 in
     riscv64-*) echo '/^define internal /!s/^\(define [a-z ]*\)i32 @/\1signext i32 @/' ;;
     cortex-*)
@@ -167,7 +160,8 @@ target_edits() {
     esac
 }
 
-# fits TARGET MODULE: whether target_edits has done all that to a module. Where the kit writes its modules otherwise it would have not.
+# fits TARGET MODULE: whether target_edits has done all that to a module. Where the kit writes its modules otherwise it would have not. And a module that
+# reads a pointer and what stands before it as one is not taken where pointers have 32 bits: the compiler would look for it in another place.
 fits() {
     local lacks=
     [ "$1" != x86_64-linux ] || return 0

@@ -66,7 +66,15 @@ pub fn check_front(ins: Ins, h: Header, given: &[u8], code: &[u8]) -> Result<(),
             check_append_p(h)?;
             check_write_case(h, given)
         }
-        _ => Ok(()),
+        Ins::Select
+        | Ins::Verify
+        | Ins::Authenticate
+        | Ins::ChangePin
+        | Ins::ReloadPin
+        | Ins::CreateFile
+        | Ins::GetChallenge
+        | Ins::GetResponse
+        | Ins::Unlisted => Ok(()),
     }
 }
 

@@ -118,10 +118,13 @@ fn folders_trimmed(d: Directory) -> Directory
     }
 }
 
+// Set in a copy: an update of the struct puts each other part on the stack once more.
 fn with_journal(card: Card, journal: Journal) -> Card
     ensures { result ≡ with_journal card journal }
 {
-    Card { journal, ..card }
+    let mut next = card;
+    next.journal = journal;
+    next
 }
 
 #[tactic(auto, unfolding(power::specs::Recovery::tidied))]
@@ -142,9 +145,11 @@ pub fn recover(card: Card, area: &[u8]) -> Answer
     if area.len() != AREA_SIZE {
         return answer(2, card, 0);
     }
+    if !left_by_cut(card.journal, card.directory.count) {
+        return answer(4, card, 0);
+    }
     let next = tidied(card);
-    let possible = left_by_cut(card.journal, card.directory.count);
-    if !(possible && is_sound(next, area)) {
+    if !is_sound(next, area) {
         return answer(4, card, 0);
     }
     answer(0, next, 0)

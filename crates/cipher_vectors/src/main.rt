@@ -42,27 +42,33 @@ fn chained(n: usize) -> [u8; 16] {
     block
 }
 
-// A line that cannot be written is passed over, and what is behind it is tried all the same.
-fn print_case<N: Display + Drop>(rt: &impl Print, name: N, block: [u8; 16]) {
-    let _ = println!(rt; "{name} {:032X}", u128::from_be_bytes(block));
+// One write each. A piece that cannot be written is passed over, and what is behind it is tried all the same.
+fn put<T: Display + Drop>(rt: &impl Print, piece: T) {
+    let _ = print!(rt; "{piece}");
+}
+
+fn put_block(rt: &impl Print, block: [u8; 16]) {
+    let _ = println!(rt; "{:032X}", u128::from_be_bytes(block));
+}
+
+fn print_case(rt: &impl Print, name: &str, n: u32, block: [u8; 16]) {
+    put(rt, name);
+    put(rt, n);
+    put(rt, " ");
+    put_block(rt, block);
 }
 
 fn main(rt: HostRuntime) {
-    print_case(&rt, "C.1", aes128(KEY_C1, BLOCK_C1));
-    print_case(&rt, "B", aes128(KEY_B, BLOCK_B));
+    put(&rt, "C.1 ");
+    put_block(&rt, aes128(KEY_C1, BLOCK_C1));
+    put(&rt, "B ");
+    put_block(&rt, aes128(KEY_B, BLOCK_B));
     for n in 1..=128 {
-        print_case(
-            &rt,
-            format_args!("VarTxt {n}"),
-            aes128([0; 16], first_bits(n)),
-        );
+        print_case(&rt, "VarTxt ", n, aes128([0; 16], first_bits(n)));
     }
     for n in 1..=128 {
-        print_case(
-            &rt,
-            format_args!("VarKey {n}"),
-            aes128(first_bits(n), [0; 16]),
-        );
+        print_case(&rt, "VarKey ", n, aes128(first_bits(n), [0; 16]));
     }
-    print_case(&rt, "chain", chained(10000));
+    put(&rt, "chain ");
+    put_block(&rt, chained(10000));
 }

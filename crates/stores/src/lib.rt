@@ -177,7 +177,7 @@ fn value_byte(given: &[u8], i: usize) -> u8
     if i == LENGTH {
         return given.len() as u8;
     }
-    given.get(i).copied().unwrap_or(0)
+    if i < given.len() { given[i] } else { 0 }
 }
 
 pub(crate) fn value_store(n: usize, given: &[u8], k: usize) -> Numbered
@@ -229,9 +229,10 @@ pub(crate) fn update_store(at: usize, given: &[u8], k: usize) -> Numbered
     requires { (at ≤ 2000000) × (length given.now ≤ 255) }
     ensures { result ≡ store_at (row area_byte at given.now) k }
 {
-    match given.get(k) {
-        Some(&byte) => area_store(at + k, byte),
-        None => no_store(),
+    if k < given.len() {
+        area_store(at + k, given[k])
+    } else {
+        no_store()
     }
 }
 
@@ -325,9 +326,10 @@ pub(crate) fn make_store(count: usize, end: usize, size: usize, f: File, k: usiz
         return area_store(end + k, 0);
     }
     let i = k - size;
-    match new_bytes(f).get(i) {
-        Some(&byte) => entry_store(count, i, byte),
-        None => only(a_store(COUNT_AT, (count + 1) as u8), i - ENTRY_SIZE),
+    if i < ENTRY_SIZE {
+        entry_store(count, i, new_bytes(f)[i])
+    } else {
+        only(a_store(COUNT_AT, (count + 1) as u8), i - ENTRY_SIZE)
     }
 }
 
@@ -342,8 +344,9 @@ pub(crate) fn found_store(number: usize, x: Folder, k: usize) -> Numbered
     requires { number < 4 }
     ensures { result ≡ store_at (row (folder_byte number) 0 (folder_bytes x) ++ (folder_count (number + 1) ∷ [])) k }
 {
-    match folder_bytes(x).get(k) {
-        Some(&byte) => a_store(FOLDERS_AT + number * FOLDER_SIZE + k, byte),
-        None => only(a_store(NUMBER_AT, (number + 1) as u8), k - FOLDER_SIZE),
+    if k < FOLDER_SIZE {
+        a_store(FOLDERS_AT + number * FOLDER_SIZE + k, folder_bytes(x)[k])
+    } else {
+        only(a_store(NUMBER_AT, (number + 1) as u8), k - FOLDER_SIZE)
     }
 }

@@ -132,6 +132,22 @@ skip-none s e = of (ltb (position_or_len ends s) (length s)) refl e
         let m : length s ≤ position_or_len ends s + 1 = omega (arith, ltb-false _ _ l) in
         sym (skip-at s ∙ drop_of_length-le s m)
 
+-- the same, byte by byte
+module _ (s : List ℕ) (i : ℕ) where
+  skip-next : i < length s → skip (drop i s) ≡ cond (ends (get_or s i 0)) (drop (suc i) s) (skip (drop (suc i) s))
+  unfolding skip
+  skip-next h = rw (drop-cons s i 0 h)
+
+  pub skip-stops : (rest : List ℕ) (t : Bool) → i < length s → t ≡ ends (get_or s i 0) → t ≡ true → skip (drop i s) ≡ rest → drop (i + 1) s ≡ rest
+  skip-stops rest t h e f k = rw (add-one i) (sym (skip-next h ∙ rw (sym e ∙ f)) ∙ k)
+
+  pub skip-goes : (rest : List ℕ) (t : Bool) → i < length s → t ≡ ends (get_or s i 0) → t ≡ false → skip (drop i s) ≡ rest → skip (drop (i + 1) s) ≡ rest
+  skip-goes rest t h e f k = rw (add-one i) (sym (skip-next h ∙ rw (sym e ∙ f)) ∙ k)
+
+  pub skip-ends : (rest : List ℕ) → length s ≤ i → skip (drop i s) ≡ rest → [] ≡ rest
+  unfolding skip
+  skip-ends rest h k = sym (rw (drop_of_length-le s h)) ∙ k
+
 pub skips-goes : (s rest next : List ℕ) (k j : ℕ) → j < k → next ≡ skip rest → skips (k - j) rest ≡ s → skips (k - (j + 1)) next ≡ s
 skips-goes s rest next k j h r e = let m : k - j ≡ suc (k - (j + 1)) = omega arith in rw r (rw m at e)
 

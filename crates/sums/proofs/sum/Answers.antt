@@ -1,5 +1,6 @@
 use Rattle.std.proofs.Common.{false, get_or, arith, refl, sym, ap, ◌∙◌}
 use lib.Seq.{take_all}
+use Rattle.std.proofs.lemmas.Bool.Decides.{nat_tests}
 use Rattle.sums.specs.Kept.{plus, sum_of, no_alarm, answer}
 use Rattle.sums.proofs.Adding.{sum_more, list-taken, list-refused}
 use Rattle.sums.proofs.sum.Goals as goal
@@ -15,7 +16,7 @@ loop-a-preserved c =
     c.add-totals.ensures ∙ ap (λ t. plus t (get_or ys i no_alarm)) c.loop-a.invariant ∙ sum_more c.args.t ys i no_alarm c.loop-a-test.true
 
 pub returns-then-alarms-gt1000 : goal.returns-then-alarms-gt1000
-returns-then-alarms-gt1000 c = sym (list-refused c.args.t c.args.alarms.now c.if-alarms-gt1000.true)
+returns-then-alarms-gt1000 c = rw (list-refused c.args.t c.args.alarms.now c.if-alarms-gt1000.true) (grind (arith, nat_tests))
 
 pub returns : goal.returns
 returns c =

@@ -1,4 +1,4 @@
-use Rattle.std.proofs.Common.{◌∙◌, sym, []}
+use Rattle.std.proofs.Common.{◌∙◌, sym, [], arith}
 use Rattle.rules.specs.List.{rule}
 use Rattle.card.specs.Coded.{front}
 use Rattle.card.specs.Checks.{checked}
@@ -52,8 +52,8 @@ pub returns-in_ok-check_append_p-in-AppendRecord : goal.returns-in_ok-check_appe
 unfolding front rule
 returns-in_ok-check_append_p-in-AppendRecord c = rw c.in-AppendRecord.is (c.check_write_case-in-AppendRecord.ensures ∙ sym (goes _ _ (sym c.check_append_p.ensures ∙ c.in_ok-check_append_p-in-AppendRecord.was)))
 
-pub returns-in_default : goal.returns-in_default
+pub returns-in-Select : goal.returns-in-Select
 unfolding checked
-returns-in_default c = let a = c.args in
-    let d = c.in_default in
-    rw (no-front (coded_of a.h a.given.now a.code.now []) a.ins d.not-ReadBinary d.not-UpdateBinary d.not-ReadRecord d.not-UpdateRecord d.not-AppendRecord)
+returns-in-Select c = let a = c.args in
+    let s = c.in-Select.is in
+    rw (no-front (coded_of a.h a.given.now a.code.now []) a.ins (λ q. grind (arith, s, q)) (λ q. grind (arith, s, q)) (λ q. grind (arith, s, q)) (λ q. grind (arith, s, q)) (λ q. grind (arith, s, q)))

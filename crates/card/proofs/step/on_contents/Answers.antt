@@ -1,6 +1,7 @@
 use mathlib.Core.Path.{◌≡◌, refl, subst}
 use mathlib.Core.Bool.{false, true}
 use mathlib.Core.List.{[]}
+use native.Mathlib.Omega.{arith}
 use Rattle.files.specs.Directory.{addressed}
 use Rattle.files.proofs.Checks.{clash}
 use Rattle.rules.specs.Words.{first}
@@ -85,7 +86,7 @@ others GetChallenge tc a b d e f = clash false tc refl
 others GetResponse tc a b d e f = clash false tc refl
 others Unlisted tc a b d e f = clash false tc refl
 
-pub returns-in_default : goal.returns-in_default
-returns-in_default c = λ card random es aim ready tc.
-    let o = c.in_default in
-    absurd (others c.args.ins tc o.not-ReadBinary o.not-UpdateBinary o.not-ReadRecord o.not-UpdateRecord o.not-AppendRecord)
+pub returns-in-Select : goal.returns-in-Select
+returns-in-Select c = λ card random es aim ready tc.
+    let s = c.in-Select.is in
+    absurd (others c.args.ins tc (λ q. grind (arith, s, q)) (λ q. grind (arith, s, q)) (λ q. grind (arith, s, q)) (λ q. grind (arith, s, q)) (λ q. grind (arith, s, q)))

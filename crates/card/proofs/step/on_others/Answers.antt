@@ -101,6 +101,14 @@ returns-in-GetChallenge c = λ card es ed ex ready tc.
     rw c.in-GetChallenge.is
     (says-ruled card a.random.now a.area.now a.reply.now (first (get_challenge_checks k)) (touched card (get_challenge_touch k) a.random.now) c.get_challenge.result refl refl refl refl _ c.requires.0 (c.get_challenge.ensures card es))
 
+pub returns-in-GetResponse : goal.returns-in-GetResponse
+unfolding rest done rule
+returns-in-GetResponse c = λ card es ed ex ready tc.
+    let a = c.args in
+    let s = c.same_session in
+    rw c.in-GetResponse.is
+    (quiet card a.random.now a.area.now a.reply.now (answers 0x6D00 card) s.result refl (leaves-same card a.session es s.result 0x6D00 s.ensures))
+
 -- the other commands that take no code are in no list here
 unanswered : (i : Ins) (x : Card) (l : Located) (k : Command) (random : List ℕ) → takes_code (rule i) ≡ false
     → (i ≡ Select → ⊥) → (i ≡ Verify → ⊥) → (i ≡ Authenticate → ⊥) → (i ≡ ChangePin → ⊥) → (i ≡ ReloadPin → ⊥) → (i ≡ CreateFile → ⊥) → (i ≡ GetChallenge → ⊥)
@@ -121,10 +129,10 @@ unanswered AppendRecord x l k random tc a b d e f g h = clash true refl tc
 unanswered GetResponse x l k random tc a b d e f g h = refl
 unanswered Unlisted x l k random tc a b d e f g h = refl
 
-pub returns-in_default : goal.returns-in_default
-returns-in_default c = λ card es ed ex ready tc.
+pub returns-in-ReadBinary : goal.returns-in-ReadBinary
+returns-in-ReadBinary c = λ card es ed ex ready tc.
     let a = c.args in
-    let o = c.in_default in
-    let s = c.same_session in
-    rw (unanswered a.ins card (record_found card a.area.now (command_of a.h [])) (command_of a.h a.given.now) a.random.now tc o.not-Select o.not-Verify o.not-Authenticate o.not-ChangePin o.not-ReloadPin o.not-CreateFile o.not-GetChallenge)
-    (quiet card a.random.now a.area.now a.reply.now (answers 0x6D00 card) s.result refl (leaves-same card a.session es s.result 0x6D00 s.ensures))
+    let s = c.in-ReadBinary.is in
+    let r = c.same_session-in-ReadBinary in
+    rw (unanswered a.ins card (record_found card a.area.now (command_of a.h [])) (command_of a.h a.given.now) a.random.now tc (λ q. grind (arith, s, q)) (λ q. grind (arith, s, q)) (λ q. grind (arith, s, q)) (λ q. grind (arith, s, q)) (λ q. grind (arith, s, q)) (λ q. grind (arith, s, q)) (λ q. grind (arith, s, q)))
+    (quiet card a.random.now a.area.now a.reply.now (answers 0x6D00 card) r.result refl (leaves-same card a.session es r.result 0x6D00 r.ensures))

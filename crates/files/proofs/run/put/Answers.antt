@@ -13,7 +13,7 @@ loop-i-init c = paste-zero c.args.dst.now c.args.at c.args.src.now
 pub loop-i-preserved : goal.loop-i-preserved
 loop-i-preserved c = let a = c.args in
     let h : a.at + c.loop-i.i < length a.dst.now = omega arith in
-    rw (c.loop-i.invariant, add-one) (paste-suc a.dst.now a.at a.src.now c.loop-i.i 0 h c.loop-i-test.true)
+    rw (c.loop-i.invariant, add-one) (paste-suc a.dst.now a.at a.src.now c.loop-i.i 0 h (omega arith))
 
 pub returns : goal.returns
 returns c = let a = c.args in

@@ -1,4 +1,4 @@
-use Rattle.std.proofs.Common.{◌≡◌, ℕ, ◌+◌, ◌-◌, ◌≤◌, List, length, true, false, refl, sym, ap, ◌∙◌, arith, add-one}
+use Rattle.std.proofs.Common.{◌≡◌, ℕ, ◌+◌, ◌-◌, ◌≤◌, List, true, false, refl, sym, ap, ◌∙◌, arith, add-one}
 use Rattle.std.proofs.lemmas.Grind.{common_steps}
 use lib.Dec.{leb}
 use Rattle.files.specs.Types.{good_length}
@@ -28,9 +28,9 @@ moves used bytes at step i n e l s g t =
     rw (add-one i, w, q, ← e) (omega arith)
 
 -- past the tests of a length the step takes it, and it is good
-taken : (c : After-ends_by) → (c.if-next-step.step ≡ c.from-next.result + 1) × (good_length c.from-next.result ≡ true)
+taken : (c : After-ends_by) → (c.if-next-step.step ≡ c.from-length.result + 1) × (good_length c.from-length.result ≡ true)
 taken c = let l = c.loop-i in
-    let n = c.from-next.result in
+    let n = c.from-length.result in
     elim c.if-next-step.branch [
       | then-next-step+else-turns-eq-MOST_TURNS+else-not-good_length q ↦ (q.step-is, grind (arith, common_steps))
       | else-next-step q ↦ (let e : n + 1 ≡ l.step = omega (arith, q.if-next-step.false) in (q.step-is ∙ sym e, same_step l.step n e l.invariant.2))
@@ -39,11 +39,10 @@ taken c = let l = c.loop-i in
 pub loop-i-init : goal.loop-i-init
 loop-i-init c = (sym (walk_none c.args.used c.args.bytes.now), omega arith, λ z. absurd (z refl))
 
-pub returns-in_default : goal.returns-in_default
-returns-in_default c = let a = c.args in
+pub returns-then-bytes-at : goal.returns-then-bytes-at
+returns-then-bytes-at c = let a = c.args in
     let l = c.loop-i in
-    let b : length a.bytes.now ≤ l.at = grind (arith, common_steps) in
-    stays a.used a.bytes.now l.at l.i a.n (omega arith) l.invariant.0 (none-beyond a.used a.bytes.now l.at b)
+    stays a.used a.bytes.now l.at l.i a.n (omega arith) l.invariant.0 (none-beyond a.used a.bytes.now l.at c.if-bytes-at.true)
 
 pub walk_on-requires : goal.walk_on-requires
 walk_on-requires c = (omega arith, c.loop-i.invariant.0)
@@ -51,7 +50,7 @@ walk_on-requires c = (omega arith, c.loop-i.invariant.0)
 pub returns-then-not-good_length : goal.returns-then-not-good_length
 returns-then-not-good_length c = let a = c.args in
     let l = c.loop-i in
-    let n = c.from-next.result in
+    let n = c.from-length.result in
     let e : n ≡ length_at a.bytes.now l.at = grind (arith, common_steps) in
     let g : good_length n ≡ false = grind (arith, common_steps) in
     stays a.used a.bytes.now l.at l.i a.n (omega arith) l.invariant.0 (stands-as a.used a.bytes.now l.at n false (leb (l.at + (n + 1)) a.used) e g refl)
@@ -59,7 +58,7 @@ returns-then-not-good_length c = let a = c.args in
 pub returns-then-not-ends_by : goal.returns-then-not-ends_by
 returns-then-not-ends_by c = let a = c.args in
     let l = c.loop-i in
-    let n = c.from-next.result in
+    let n = c.from-length.result in
     let w = taken (goal.at.returns-then-not-ends_by c).After-ends_by in
     let e : n ≡ length_at a.bytes.now l.at = grind (arith, common_steps) in
     let t : leb (l.at + (n + 1)) a.used ≡ false = rw w.0 at (sym c.ends_by.ensures ∙ c.if-not-ends_by.true) in
@@ -69,7 +68,7 @@ pub loop-i-preserved : goal.loop-i-preserved
 loop-i-preserved c = let a = c.args in
     let l = c.loop-i in
     let s = c.if-next-step in
-    let n = c.from-next.result in
+    let n = c.from-length.result in
     let w = taken (goal.at.loop-i-preserved c).After-ends_by in
     let e : n ≡ length_at a.bytes.now l.at = grind (arith, common_steps) in
     let t : leb (l.at + s.step) a.used ≡ true = sym c.ends_by.ensures ∙ c.if-not-ends_by.false in

@@ -1,16 +1,13 @@
-use Rattle.std.proofs.Common.{rules, tests, ◌∙◌, ◌+◌, sym}
-use Rattle.std.proofs.lemmas.Iterator.{YieldsList-from_slice}
-use Rattle.std.proofs.lemmas.Iterator.Search.{position_from_yields_List}
-use Rattle.texts.specs.Reading.{ends}
-use Rattle.texts.proofs.Scanning.{from_is, skip-found, skip-none}
+use Prim.Native.Nat.{◌+◌}
+use mathlib.Core.Path.{◌∙◌}
+use Rattle.texts.proofs.Scanning.{from_is, skip-stops, skip-goes, skip-ends}
 use Rattle.texts.proofs.scan.skip.Goals as goal
 
-pub returns-in-Some : goal.returns-in-Some
-returns-in-Some c =
-    let e = position_from_yields_List ends _ _ c.position.result c.position.ensures.ran (YieldsList-from_slice c.args.s.now c.iter.ensures.rest) (λ x b q k. search (rules, tests)) in
-    from_is c.args.s.now (c.in-Some.i + 1) ∙ (skip-found c.args.s.now c.in-Some.i (sym c.in-Some.is ∙ e)).1
+pub returns-then-ends : goal.returns-then-ends
+returns-then-ends c = let s = c.args.s.now in let l = c.loop-i in from_is s (l.i + 1) ∙ skip-stops s l.i _ _ c.loop-i-test.true c.ends.ensures c.if-ends.true l.invariant
 
-pub returns-in-None : goal.returns-in-None
-returns-in-None c =
-    let e = position_from_yields_List ends _ _ c.position.result c.position.ensures.ran (YieldsList-from_slice c.args.s.now c.iter.ensures.rest) (λ x b q k. search (rules, tests)) in
-    skip-none c.args.s.now (sym c.in-None.is ∙ e)
+pub loop-i-preserved : goal.loop-i-preserved
+loop-i-preserved c = let l = c.loop-i in skip-goes c.args.s.now l.i _ _ c.loop-i-test.true c.ends.ensures c.if-ends.false l.invariant
+
+pub returns : goal.returns
+returns c = let l = c.loop-i in skip-ends c.args.s.now l.i _ c.loop-i-test.false l.invariant
